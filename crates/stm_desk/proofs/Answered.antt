@@ -65,9 +65,9 @@ pub begun_asked : (old new : Desk) (call : Call) (way : Way) (whose : ℕ) (r : 
 begun_asked old new call way whose (Ok (asked.Runs job)) is_open waits long h = (is_open, waits, long, h)
 begun_asked old new call way whose (Ok (asked.Ended a)) is_open waits long h = absurd h
 begun_asked old new call way whose (Ok (asked.Waits t)) is_open waits long h = absurd h
-begun_asked old new call way whose (Ok asked.ChapterFull) is_open waits long h = (is_open, h.0, h.1, h.2)
+begun_asked old new call way whose (Ok asked.ChapterFull) is_open waits long h = (is_open, h.0, h.1)
 begun_asked old new call way whose (Err refused.Memory) is_open waits long h = (is_open, h)
-begun_asked old new call way whose (Err refused.NoRoom) is_open waits long h = ((is_open, h.0, h.1), h.2)
+begun_asked old new call way whose (Err refused.NoRoom) is_open waits long h = (is_open, h.0, h.1)
 begun_asked old new call way whose (Err refused.Unknown) is_open waits long h = absurd h
 begun_asked old new call way whose (Err refused.Gone) is_open waits long h = absurd h
 begun_asked old new call way whose (Err refused.NotReady) is_open waits long h = absurd h

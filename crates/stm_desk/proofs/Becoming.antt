@@ -140,6 +140,16 @@ change_stays old new ticket task is_open c =
           is_open = back_set (open_tasks old.book) task.0 o.task.0 is_open c.was_open (subst (λ (bs : List Bool). slice_get bs o.task.0 ≡ Some true) c.open_now o.is_open);
         });
       };
+      over_before = λ other apart h. record {
+        given = subst (λ (t : TicketsView). other.0 < t.given) c.kept.tickets h.given;
+        ended = λ o.
+            let away : o.task.0 ≢ task.0 = λ same. apart (same_ticket old.tickets other ticket o.task task same o.own c.own) in
+            h.ended (record {
+              task = o.task;
+              own = moved_back old new o.task other c.kept.tickets o.own;
+              is_open = ap (λ (bs : List Bool). slice_get bs o.task.0) c.open_now ∙ (get_set_other (open_tasks old.book) task.0 o.task.0 is_open away ∙ o.is_open);
+            });
+      };
     }
   where
     same_ticket : (t : TicketsView) (one other : Ticket) (a b : TaskId) → a.0 ≡ b.0 → HasTicket t a one → HasTicket t b other → one.0 ≡ other.0
@@ -265,6 +275,21 @@ alike_over old new ticket a h =
       ended = λ o. h.ended (alike_back old new ticket a o);
     }
 
+alike_on : (old new : Store) (ticket : Ticket) → IsAlike old new → HasOpen old ticket → HasOpen new ticket
+alike_on old new ticket a o =
+    record {
+      task = o.task;
+      own = moved_back old new o.task ticket a.kept.tickets o.own;
+      is_open = ap (λ (bs : List Bool). slice_get bs o.task.0) a.open_now ∙ o.is_open;
+    }
+
+pub alike_was_over : (old new : Store) (ticket : Ticket) → IsAlike old new → IsOver new ticket → IsOver old ticket
+alike_was_over old new ticket a h =
+    record {
+      given = subst (λ (t : TicketsView). ticket.0 < t.given) a.kept.tickets h.given;
+      ended = λ o. h.ended (alike_on old new ticket a o);
+    }
+
 -- what becomes of a task behind it
 pub become_after : (old mid new : Store) (ticket : Ticket) (what : Became) → IsAlike old mid → HasBecome mid new ticket what → HasBecome old new ticket what
 become_after old mid new ticket what a h =
@@ -274,6 +299,7 @@ become_after old mid new ticket what a h =
         catalogue = h.stays.catalogue ∙ l;
         all_open = λ other call apart o. h.stays.all_open other call apart (alike_open old mid other call a o);
         over = λ other o. h.stays.over other (alike_over old mid other a o);
+        over_before = λ other apart o. alike_was_over old mid other a (h.stays.over_before other apart o);
       };
       not_before = λ o. h.not_before (alike_over old mid ticket a o);
       is_over = h.is_over;

@@ -1,7 +1,5 @@
 -- A task of a long call: it is submitted, and claimed at once.
-use Rattle.stm_desk.specs.declared.answers.Asked.{Asked}
-use Rattle.stm_desk.specs.declared.answers.Asked.TheVariants as asked
-use Rattle.std.proofs.Common.{◌≡◌, ◌≢◌, ◌∙◌, ◌⊎◌, inl, inr, ℕ, zero, suc, ℤ, Bool, true, List, [], ◌∷◌, ◌++◌, Option, Some, None, Result, Ok, Err, length, set, refl, sym, ap, subst, ◌<◌}
+use Rattle.std.proofs.Common.{◌≡◌, ◌≢◌, ◌∙◌, ◌⊎◌, inl, inr, ℕ, zero, suc, ℤ, Bool, true, List, [], ◌∷◌, ◌++◌, Option, Some, None, Result, Ok, Err, length, set, refl, sym, ap, subst}
 use Rattle.std.specs.List.{slice_get}
 use Rattle.std.proofs.lemmas.Bool.{cases_eq}
 use Rattle.std.proofs.lemmas.List.{length-map}
@@ -13,8 +11,7 @@ use Rattle.book.specs.Tasks.{Task, GivenUp, Ready, Running}
 use Rattle.book.specs.View.{BookView}
 use Rattle.book.specs.Carrying.{stays}
 use Rattle.book.specs.LawfulBook.{BookFits}
-use Rattle.book.specs.Chapters.{chapter_of}
-use Rattle.stm_store.specs.Tickets.{AreTickets, HasTicket, TicketsView, most_tickets}
+use Rattle.stm_store.specs.Tickets.{AreTickets, HasTicket, TicketsView}
 use Rattle.stm_store.specs.Asking.{Claims, GivesUp, IsUnchanged, Submits, IsFull}
 use Rattle.stm_store.specs.Keeping.{KeepsStore, KeepsTasks}
 use Rattle.stm_store.specs.declared.answers.Refused.{Refused}
@@ -25,16 +22,15 @@ use Rattle.stm_store.specs.declared.store.Store.{Store}
 use Rattle.stm_store.proofs.Rising.{one_of}
 use Rattle.stm_desk.specs.declared.waiters.Waiters.{Waiters}
 use Rattle.stm_desk.specs.declared.work.Work.{Work}
-use Rattle.stm_desk.specs.Asking.{IsServed, next_ticket, IsSame}
-use Rattle.stm_desk.specs.Ending.{IsNotKept, IsTurnedAway, MakesRoom}
+use Rattle.stm_desk.specs.Asking.{IsServed, next_ticket}
 use Rattle.stm_desk.specs.Open.{HasOpenCall, open_tasks}
-use Rattle.stm_desk.specs.Running.{AreAwaited, IsBegun, RunsAt, RunsFor}
+use Rattle.stm_desk.specs.Running.{AreAwaited, RunsAt, RunsFor}
 use Rattle.stm_desk.specs.Settling.{Noted}
 use Rattle.stm_desk.specs.Waiting.{IsSeated, OthersStay, WaitAsBefore, waiting_at}
 use Rattle.stm_desk.proofs.Becoming.{IsAlike, none_alike, present_on, same_call, stood}
 use Rattle.stm_desk.proofs.Calling.{IsMore, get_end, get_more, here_now, map_more, more_held, more_open, more_stays, new_tickets}
 use Rattle.stm_desk.proofs.Flags.{get_set_other, open_at, open_stands, set_same}
-use Rattle.stm_desk.proofs.Legal.{accounts_stay}
+use Rattle.stm_desk.proofs.Legal.{accounts_stay, over_but}
 use Rattle.stm_desk.proofs.Seats.{AreTold, seated_more, seated_same, seated_still}
 use Rattle.stm_desk.proofs.Settling.{AreKept, gives_up_running, seated_on}
 
@@ -187,36 +183,6 @@ claimed_for old new mid call job ticket whose c seated history due =
       others = λ k r. claimed_runs old.store mid new.store call job ticket k c r;
     }
 
--- the room that the next chapter makes is the same
-same_room : (old new : Work) → IsSame old new → new.last ≡ old.last → MakesRoom new → MakesRoom old
-same_room old new same last m =
-    record {
-      room = (subst (λ (b : BookView). 0 < (chapter_of b).spare) same.store.0 m.room.0, subst (λ (t : TicketsView). t.given < most_tickets) same.store.1 m.room.1);
-      none_lies = λ lies. m.none_lies (subst IsNotKept (sym last) lies);
-    }
-
-same_back : (old new : Work) → IsSame old new → IsSame new old
-same_back old new same = record { store = (sym same.store.0, sym same.store.1); waiters = sym same.waiters; history = sym same.history; due = sym same.due }
-
--- none was submitted
-pub none_begun : (old new : Work) (call : Call) (whose : ℕ) (r : Result Asked Refused) → IsFull old.store → IsSame old new → new.last ≡ old.last → IsTurnedAway new r → IsBegun old call whose r new
-none_begun old new call whose (Ok asked.ChapterFull) full same last h = (full, same_room old new same last h, same)
-none_begun old new call whose (Ok (asked.Ended a)) full same last h = absurd h
-none_begun old new call whose (Ok (asked.Waits t)) full same last h = absurd h
-none_begun old new call whose (Ok (asked.Runs j)) full same last h = absurd h
-none_begun old new call whose (Err refused.NoRoom) full same last h = (full, (λ m. h (same_room new old (same_back old new same) (sym last) m)), same)
-none_begun old new call whose (Err refused.Gone) full same last h = absurd h
-none_begun old new call whose (Err refused.NotReady) full same last h = absurd h
-none_begun old new call whose (Err refused.Unknown) full same last h = absurd h
-none_begun old new call whose (Err refused.NotRunning) full same last h = absurd h
-none_begun old new call whose (Err refused.NotEnded) full same last h = absurd h
-none_begun old new call whose (Err refused.OtherProgram) full same last h = absurd h
-none_begun old new call whose (Err refused.Stale) full same last h = absurd h
-none_begun old new call whose (Err refused.Retries) full same last h = absurd h
-none_begun old new call whose (Err refused.Memory) full same last h = absurd h
-none_begun old new call whose (Err refused.Closed) full same last h = absurd h
-none_begun old new call whose (Err refused.TimedOut) full same last h = absurd h
-
 pub none_full : (old new : Store) (call : Call) (why : Refused) → Submits old call.tx call.arguments (Err why) new → IsFull old
 none_full old new call refused.NoRoom h = h.0
 none_full old new call refused.Gone h = absurd h
@@ -251,7 +217,7 @@ submitted_keeps first closed old new call ticket n s k =
     let stays_so = more_stays old new call (last_of old) ticket true (submitted_more old new call ticket s) in
     record {
       counted = k.counted;
-      accounts = ∥∥₁_map k.accounts (accounts_stay first old new n.0 stays_so.catalogue (submitted_present old new call ticket s) stays_so.over);
+      accounts = ∥∥₁_map k.accounts (accounts_stay first old new n.0 stays_so.catalogue (submitted_present old new call ticket s) stays_so.over (over_but old new ticket stays_so (submitted_open old new call ticket s).has));
       seated = seated_still old new n.2 ticket s.rise s.is.1 stays_so k.seated;
       told = k.told;
     }

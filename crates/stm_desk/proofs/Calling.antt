@@ -1,6 +1,7 @@
 -- What becomes of the task of a call, which is one more.
 use Rattle.std.proofs.Common.{◌≡◌, ◌≢◌, ◌∙◌, ◌⊎◌, inl, inr, ℕ, zero, suc, ◌+◌, ◌<◌, ℤ, Bool, true, false, if◌then◌else◌, List, [], ◌∷◌, ◌++◌, Some, None, length, map, set, refl, sym, ap, subst, arith}
 use Rattle.std.specs.List.{slice_get}
+use Rattle.std.proofs.lemmas.Bool.{cases_lt}
 use Rattle.std.proofs.lemmas.List.{length-map}
 use Rattle.std.proofs.lemmas.Option.{get_or_from_slice_get, same_Some, slice_get_within}
 use Rattle.txn_programs.specs.declared.ast.TaskId.{TaskId}
@@ -183,8 +184,29 @@ more_stays old new call task ticket is_open c =
         given = subst (λ (t : TicketsView). other.0 < t.given) (sym c.tickets) (omega (arith, h.given));
         ended = λ o. back other h o;
       };
+      over_before = λ other apart h. record {
+        given = low other apart (subst (λ (t : TicketsView). other.0 < t.given) c.tickets h.given);
+        ended = λ o. h.ended (on other o);
+      };
     }
   where
+    low : (other : Ticket) → other.0 ≢ ticket.0 → other.0 < old.tickets.given + 1 → other.0 < old.tickets.given
+    low other apart less = elim (cases_lt other.0 old.tickets.given) [
+      | inl below ↦ below
+      | inr not ↦
+          let same : other.0 ≡ old.tickets.given = omega (arith, less, not) in
+          absurd (apart (same ∙ sym c.next))
+    ]
+
+    on : (other : Ticket) → HasOpen old other → HasOpen new other
+    on other o = record {
+      task = o.task;
+      own = subst (λ (t : TicketsView). slice_get t.held o.task.0 ≡ Some other.0) (sym c.tickets) (get_append_left old.tickets.held (old.tickets.given ∷ []) o.task.0 other.0 o.own);
+      is_open = ap (λ (bs : List Bool). slice_get bs o.task.0) c.open_now
+          ∙ (get_set_other (open_tasks old.book ++ true ∷ []) task.0 o.task.0 is_open (away old task o.task true c.last o.is_open)
+          ∙ get_append_left (open_tasks old.book) (true ∷ []) o.task.0 true o.is_open);
+    }
+
     back : (other : Ticket) → IsOver old other → HasOpen new other → ⊥
     back other h o =
         let at : slice_get (old.tickets.held ++ old.tickets.given ∷ []) o.task.0 ≡ Some other.0 = subst (λ (t : TicketsView). slice_get t.held o.task.0 ≡ Some other.0) c.tickets o.own in

@@ -151,11 +151,26 @@ next_was_open old new one n o =
     let c = came old.tickets.held old.book.tasks o.task.0 one.0 (subst (λ (t : TicketsView). slice_get t.held o.task.0 ≡ Some one.0) n.tickets o.own) in
     record { task = record { 0 = c.0 }; own = c.1; is_open = c.2 }
 
+next_is_open : (old new : Store) (one : Ticket) → BeginsNext old new → HasOpen old one → HasOpen new one
+next_is_open old new one n o =
+    record {
+      task = record { 0 = place old.book.tasks o.task.0 };
+      own = ap (λ (t : TicketsView). slice_get t.held (place old.book.tasks o.task.0)) n.tickets ∙ comes old.tickets.held old.book.tasks o.task.0 one.0 o.is_open o.own;
+      is_open = ap (λ (b : BookView). slice_get (open_tasks b) (place old.book.tasks o.task.0)) n.book ∙ comes_open old.book.tasks o.task.0 o.is_open;
+    }
+
 pub next_over : (old new : Store) (one : Ticket) → BeginsNext old new → IsOver old one → IsOver new one
 next_over old new one n h =
     record {
       given = subst (λ (t : TicketsView). one.0 < t.given) (sym n.tickets) h.given;
       ended = λ o. h.ended (next_was_open old new one n o);
+    }
+
+next_was_over : (old new : Store) (one : Ticket) → BeginsNext old new → IsOver new one → IsOver old one
+next_was_over old new one n h =
+    record {
+      given = subst (λ (t : TicketsView). one.0 < t.given) n.tickets h.given;
+      ended = λ o. h.ended (next_is_open old new one n o);
     }
 
 -- who waits waits on
@@ -165,4 +180,4 @@ next_seated old new w n all t seat at = ∥∥₁_map (all t seat at) (next_open
 -- and the history accounts for the next chapter
 pub next_accounts : (first old new : Store) (h : History) → BeginsNext old new → Accounts first old h → Accounts first new h
 next_accounts first old new h n a =
-    accounts_stay first old new h n.catalogue (ap (λ (b : BookView). b.present.state) n.book) (λ t over. next_over old new t n over) a
+    accounts_stay first old new h n.catalogue (ap (λ (b : BookView). b.present.state) n.book) (λ t over. next_over old new t n over) (λ t over. next_was_over old new t n over) a

@@ -196,7 +196,7 @@ hands_nobody old new h none = h.told ∙ (ap (λ (xs : List Told). old.told.item
 
 -- over several calls
 pub goes_nothing : (w : Work) → GoesOn w w
-goes_nothing w = record { first = refl; long = refl; catalogue = refl; closed = refl; last = refl; history = ([], sym (append-nil w.history.items)) }
+goes_nothing w = record { first = refl; long = refl; catalogue = refl; chapter = refl; closed = refl; last = refl; history = ([], sym (append-nil w.history.items)) }
 
 pub goes_both : (a b c : Work) → GoesOn a b → GoesOn b c → GoesOn a c
 goes_both a b c p q =
@@ -204,6 +204,7 @@ goes_both a b c p q =
       first = q.first ∙ p.first;
       long = q.long ∙ p.long;
       catalogue = q.catalogue ∙ p.catalogue;
+      chapter = q.chapter ∙ p.chapter;
       closed = q.closed ∙ p.closed;
       last = q.last ∙ p.last;
       history = (p.history.0 ++ q.history.0, q.history.1 ∙ (ap (λ (h : History). h ++ q.history.0) p.history.1 ∙ append_assoc a.history.items p.history.0 q.history.0));

@@ -2,13 +2,14 @@
 use Rattle.std.proofs.Common.{◌≡◌, ◌≢◌, ◌∙◌, inl, inr, ℕ, zero, suc, ◌+◌, ◌<◌, ◌≤◌, ◌^◌, Bool, true, false, List, [], ◌∷◌, ◌++◌, Some, length, map, get_or, refl, sym, ap, subst, arith, length-append, append_assoc, eqb}
 use Rattle.std.specs.List.{slice_get, All, IsDistinct, AllByRecursion}
 use Rattle.std.proofs.lemmas.List.Elements.{All-append}
-use Rattle.std.proofs.lemmas.Bool.{eqb-true}
+use Rattle.std.proofs.lemmas.Bool.{cases_eq, eqb-true}
 use Rattle.std.proofs.lemmas.List.{length-map}
 use Rattle.std.proofs.lemmas.Map.Keys.{IsDistinct-from_apart}
 use Rattle.std.proofs.lemmas.Option.{slice_get-get_or}
 use Rattle.std.proofs.Math.Logic.{∥∥₁_elim}
 use Rattle.std.proofs.Math.Bridge.{le_prop}
 use Rattle.attempt_writes.proofs.Indexed.{few_distinct}
+use Rattle.txn_programs.specs.declared.arguments.Call.{Call}
 use Rattle.txn_programs.specs.Meaning.{State}
 use Rattle.txn_programs.specs.Listing.{Listing}
 use Rattle.stm_store.specs.Tickets.{AreTickets, most_tickets}
@@ -17,10 +18,12 @@ use Rattle.stm_store.specs.declared.store.Store.{Store}
 use Rattle.stm_desk.specs.declared.answers.Became.{Became}
 use Rattle.stm_desk.specs.declared.answers.Became.TheVariants as became
 use Rattle.stm_desk.specs.History.{AreLawful, Begins, History, IsLawful, IsOnce, led, left_by}
-use Rattle.stm_desk.specs.Open.{IsOver}
-use Rattle.stm_desk.specs.Steps.{HasBecome}
-use Rattle.stm_desk.specs.Keeping.{Accounts}
-use Rattle.stm_desk.proofs.Calling.{get_more}
+use Rattle.stm_desk.specs.Open.{HasOpen, IsOver}
+use Rattle.stm_desk.specs.Steps.{HasBecome, HasStayed, StaysBut}
+use Rattle.stm_desk.specs.Keeping.{Accounts, StandsIn}
+use Rattle.stm_desk.proofs.Calling.{get_end, get_more}
+use Rattle.stm_desk.proofs.Flags.{get_append_left}
+use Rattle.stm_desk.proofs.Handing.{get_both}
 
 led_more : (l : Listing) (m : State) (h : History) (e : Ticket × Became) → led l m (h ++ e ∷ []) ≡ left_by l (led l m h) e.1
 led_more l m [] e = refl
@@ -45,6 +48,18 @@ once_more h e once apart i j a b at_i at_j same = elim (get_more h e i a at_i) [
 abbrev pub ticket : ℕ → Ticket
 ticket n = record { 0 = n }
 
+-- what stands in a history stands in a longer one
+stands_on : (h : History) (e : Ticket × Became) (t : Ticket) → StandsIn h t → StandsIn (h ++ e ∷ []) t
+stands_on h e t s = record { place = s.place; what = s.what; at_place = get_append_left h (e ∷ []) s.place (t, s.what) s.at_place }
+
+stands_last : (h : History) (t one : Ticket) (what : Became) → t.0 ≡ one.0 → StandsIn (h ++ (one, what) ∷ []) t
+stands_last h t one what same =
+    record {
+      place = length h;
+      what = what;
+      at_place = get_end h (one, what) (length h) refl ∙ ap (λ (n : ℕ). let e : Ticket × Became = (ticket n, what) in Some e) (sym same);
+    }
+
 -- the history with what became of the task
 pub accounts_become : (first old new : Store) (h : History) (t : Ticket) (what : Became) → Accounts first old h → HasBecome old new t what → Accounts first new (h ++ (t, what) ∷ [])
 accounts_become first old new h t what a b =
@@ -64,16 +79,36 @@ accounts_become first old new h t what a b =
         | inl p ↦ b.stays.over x.0 (a.over place x p)
         | inr p ↦ subst (λ (y : Ticket × Became). IsOver new y.0) p.1 b.is_over
       ];
+      before = λ one was. b.stays.over one (a.before one was);
+      all = λ one is. elim (cases_eq one.0 t.0) [
+        | inl same ↦ inr (stands_last h one t what same)
+        | inr apart ↦ elim (a.all one (b.stays.over_before one apart is)) [
+          | inl was ↦ inl was
+          | inr s ↦ inr (stands_on h e one s)
+        ]
+      ];
     }
 
+-- where the one is open too
+pub over_but : (old new : Store) (one : Ticket) → StaysBut old new one → HasOpen new one → (t : Ticket) → IsOver new t → IsOver old t
+over_but old new one stays is_open t over = elim (cases_eq t.0 one.0) [
+  | inl same ↦ absurd (over.ended (subst (λ (n : ℕ). HasOpen new (ticket n)) (sym same) is_open))
+  | inr apart ↦ stays.over_before t apart over
+]
+
+pub stayed_over : (old new : Store) (one : Ticket) (call : Call) → HasStayed old new one call → (t : Ticket) → IsOver new t → IsOver old t
+stayed_over old new one call h t over = over_but old new one h.stays h.is_open.has t over
+
 -- the same history, where nothing became of any
-pub accounts_stay : (first old new : Store) (h : History) → new.catalogue.now ≡ old.catalogue.now → new.book.present.state ≡ old.book.present.state → ((t : Ticket) → IsOver old t → IsOver new t) → Accounts first old h → Accounts first new h
-accounts_stay first old new h same present over a =
+pub accounts_stay : (first old new : Store) (h : History) → new.catalogue.now ≡ old.catalogue.now → new.book.present.state ≡ old.book.present.state → ((t : Ticket) → IsOver old t → IsOver new t) → ((t : Ticket) → IsOver new t → IsOver old t) → Accounts first old h → Accounts first new h
+accounts_stay first old new h same present over back a =
     record {
       catalogue = same ∙ a.catalogue;
       legal = a.legal;
       leads = a.leads ∙ sym present;
       over = λ place x at. over x.0 (a.over place x at);
+      before = λ one was. over one (a.before one was);
+      all = λ one is. a.all one (back one is);
     }
 
 -- nothing became of any task yet
@@ -84,7 +119,19 @@ accounts_none first =
       legal = record { lawful = tt; once = λ i j a b at_i at_j same. absurd (cc (at_i)) };
       leads = refl;
       over = λ place e at. absurd (cc (at));
+      before = λ one was. was;
+      all = λ one is. inl is;
     }
+
+-- what was open and is over stands in what the history has more
+pub ended_stands : (first old new : Store) (h more : History) (one : Ticket) → Accounts first old h → Accounts first new (h ++ more) → HasOpen old one → IsOver new one → StandsIn more one
+ended_stands first old new h more one a b is_open over = elim (b.all one over) [
+  | inl was ↦ absurd ((a.before one was).ended is_open)
+  | inr s ↦ elim (get_both h more s.place (one, s.what) s.at_place) [
+    | inl there ↦ absurd ((a.over s.place (one, s.what) there).ended is_open)
+    | inr behind ↦ record { place = behind.0; what = s.what; at_place = behind.2 }
+  ]
+]
 
 -- A history has no more places than tickets were given.
 map_back : (h : History) (i n : ℕ) → slice_get (map (λ (e : Ticket × Became). e.0.0) h) i ≡ Some n → (e : Ticket × Became) × (slice_get h i ≡ Some e) × (e.0.0 ≡ n)

@@ -9,5 +9,6 @@ mod Refusing
 mod Settling
 mod Beginning
 mod Carrying
+mod Turned
 mod Ending
 pub mod Crossing

@@ -35,7 +35,7 @@ use Rattle.stm_desk.specs.Keeping.{Accounts}
 use Rattle.stm_desk.specs.Running.{AreAwaited, AwaitedBut, HandsNothingOut, HandsOut, HasJob, IsLong, NobodyWaits, RunsAt, noted_by}
 use Rattle.stm_desk.specs.Settling.{IsNoted, Noted, Settles}
 use Rattle.stm_desk.specs.Waiting.{HandsOn, IsSeated, OthersStay, waiting_at}
-use Rattle.stm_desk.proofs.Becoming.{Goes, IsAlike, alike_over, goes_abandons, goes_enters, goes_parks, goes_running, present_on, same_held, stood}
+use Rattle.stm_desk.proofs.Becoming.{Goes, IsAlike, alike_over, alike_was_over, goes_abandons, goes_enters, goes_parks, goes_running, present_on, same_held, stood}
 use Rattle.stm_desk.proofs.Calling.{get_more}
 use Rattle.stm_desk.proofs.Flags.{get_append_left, get_set_other}
 use Rattle.stm_desk.proofs.Handing.{get_both, get_right, hands_nothing, hands_told}
@@ -76,7 +76,7 @@ pub alike_keeps : (first : Store) (closed : Bool) (old new : Store) (n : Noted) 
 alike_keeps first closed old new n a k =
     record {
       counted = k.counted;
-      accounts = ∥∥₁_map k.accounts (accounts_stay first old new n.0 a.kept.store.catalogue a.present (λ t. alike_over old new t a));
+      accounts = ∥∥₁_map k.accounts (accounts_stay first old new n.0 a.kept.store.catalogue a.present (λ t. alike_over old new t a) (λ t. alike_was_over old new t a));
       seated = seated_alike old new n.2 a k.seated;
       told = k.told;
     }

@@ -18,7 +18,7 @@ use Rattle.stm_desk.specs.declared.answers.Became.TheVariants as became
 use Rattle.stm_desk.specs.declared.desk.Desk.{Desk}
 use Rattle.stm_desk.specs.declared.work.Work.{Work}
 use Rattle.stm_desk.specs.Asking.{GoesOn, IsGivenUp, IsSame, next_ticket}
-use Rattle.stm_desk.specs.Ending.{MakesRoom}
+use Rattle.stm_desk.specs.Ending.{IsTurnedAway}
 use Rattle.stm_desk.specs.History.{Begins, History}
 use Rattle.stm_desk.specs.Open.{IsParkedCall}
 use Rattle.stm_desk.specs.Running.{HadBrought, HadTurn, HandsOut, HasBroughtTo, IsLong, RefusesTurn, RunsFor}
@@ -46,8 +46,6 @@ pub record WaitsFor (old : Desk) (call : Call) (whose : ℕ) (ticket : Ticket) (
 
 -- why there is no task of the call; nothing changed
 abbrev pub RefusesAsked : Desk → Call → Way → Refused → Type 0
-RefusesAsked d call way refused.NoRoom =
-    (d.work.closed ≡ false) × IsFull d.work.store × (MakesRoom d.work → ⊥)
 RefusesAsked d call way refused.Closed = d.work.closed ≡ true
 RefusesAsked d call way refused.Unknown =
     (d.work.closed ≡ false) × (IsCallable d.work.store.catalogue.now call.tx call.arguments → ⊥)
@@ -59,12 +57,14 @@ IsAsked old call way whose (Ok (asked.Ended a)) new = (old.work.closed ≡ false
 IsAsked old call way whose (Ok (asked.Waits ticket)) new =
     (old.work.closed ≡ false) × (way ≡ ways.Waits) × WaitsFor old call whose ticket new
 IsAsked old call way whose (Ok asked.ChapterFull) new =
-    (old.work.closed ≡ false) × IsFull old.work.store × MakesRoom old.work × IsSame old.work new.work
+    (old.work.closed ≡ false) × IsFull old.work.store × IsTurnedAway old.work (Ok asked.ChapterFull) new.work
 IsAsked old call way whose (Ok (asked.Runs job)) new =
     (old.work.closed ≡ false)
     × (way ≡ ways.Waits)
     × IsLong old.work.long.items call.tx
     × RunsFor old.work call whose job new.work
+IsAsked old call way whose (Err refused.NoRoom) new =
+    (old.work.closed ≡ false) × IsFull old.work.store × IsTurnedAway old.work (Err refused.NoRoom) new.work
 IsAsked old call way whose (Err refused.Memory) new = (old.work.closed ≡ false) × IsGivenUp old.work new.work
 IsAsked old call way whose (Err why) new = RefusesAsked old call way why × IsSame old.work new.work
 

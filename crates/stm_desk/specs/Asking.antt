@@ -84,12 +84,13 @@ IsAnswered old call way whose (Err refused.Memory) new = IsGivenUp old new
 IsAnswered old call way whose (Err why) new =
     RefusesCall way old.store call.tx call.arguments why × IsSame old new
 
--- what turns leave: the program, how the store was at first, what is long, whether it is closed, and what became of the
--- chapter that ended last; the history only grows
+-- what turns leave: the program, the chapter, how the store was at first, what is long, whether it is closed, and what
+-- became of the chapter that ended last; the history only grows
 pub record GoesOn (old new : Work) : Type 0 where
   pub first : new.first.value ≡ old.first.value
   pub long : new.long.items ≡ old.long.items
   pub catalogue : new.store.catalogue.now ≡ old.store.catalogue.now
+  pub chapter : new.store.chapter ≡ old.store.chapter
   pub closed : new.closed ≡ old.closed
   pub last : new.last ≡ old.last
   pub history : Begins old.history.items new.history.items

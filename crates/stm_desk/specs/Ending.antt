@@ -13,7 +13,7 @@ use Rattle.stm_desk.specs.declared.ended.Ended.{Ended}
 use Rattle.stm_desk.specs.declared.ended.Last.{Last}
 use Rattle.stm_desk.specs.declared.ended.Last.TheVariants as last
 use Rattle.stm_desk.specs.declared.work.Work.{Work}
-use Rattle.stm_desk.specs.Asking.{GoesOn, IsStill}
+use Rattle.stm_desk.specs.Asking.{GoesOn, IsSame, IsStill}
 use Rattle.stm_desk.specs.Telling.{TellsOf}
 use Rattle.stm_desk.specs.Waiting.{HandsOn}
 
@@ -24,11 +24,12 @@ pub record BeginsNext (old new : Store) : Type 0 where
   pub chapter : new.chapter ≡ next_number old.chapter
   pub catalogue : new.catalogue.now ≡ old.catalogue.now
 
--- each task that ran has had its turn, and what that woke: nothing is left to be evaluated or handed out, and who waited
--- waits on or is told
+-- each task that ran has had its turn, and what that woke: nothing is left to be evaluated or handed out, no ticket was
+-- given, and who waited waits on or is told
 pub record Settled (old new : Work) : Type 0 where
   pub still : IsStill new.store
   pub due : new.due.items ≡ []
+  pub tickets : new.store.tickets ≡ old.store.tickets
   pub hands_on : HandsOn old.waiters new.waiters
   pub goes_on : GoesOn old new
 
@@ -75,9 +76,15 @@ pub record MakesRoom (w : Work) : Type 0 where
   pub room : HasRoomNext w.store
   pub none_lies : IsNotKept w.last → ⊥
 
+-- what happens before it is said whether the next chapter makes room: nothing where that is plain at once, else what
+-- runs has its turn, since whatever ends leaves its place
+abbrev pub LooksAgain : Work → Work → Type 0
+LooksAgain old new =
+    ((MakesRoom old ⊎ IsNotKept old.last) × IsSame old new) ⊎ ((HasRoomNext old.store → ⊥) × Settled old new)
+
 -- what a call is answered for which the chapter has no room
-abbrev pub IsTurnedAway : Work → Result Asked Refused → Type 0
-IsTurnedAway w (Ok asked.ChapterFull) = MakesRoom w
-IsTurnedAway w (Ok a) = ⊥
-IsTurnedAway w (Err refused.NoRoom) = MakesRoom w → ⊥
-IsTurnedAway w (Err why) = ⊥
+abbrev pub IsTurnedAway : Work → Result Asked Refused → Work → Type 0
+IsTurnedAway old (Ok asked.ChapterFull) new = LooksAgain old new × MakesRoom new
+IsTurnedAway old (Ok a) new = ⊥
+IsTurnedAway old (Err refused.NoRoom) new = LooksAgain old new × (MakesRoom new → ⊥)
+IsTurnedAway old (Err why) new = ⊥

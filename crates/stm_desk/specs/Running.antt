@@ -22,7 +22,7 @@ use Rattle.stm_desk.specs.declared.waiters.Waiters.{Waiters}
 use Rattle.stm_desk.specs.declared.waiters.Waiting.{Waiting}
 use Rattle.stm_desk.specs.declared.work.Work.{Work}
 use Rattle.stm_desk.specs.Asking.{IsGivenUp, IsSame, call_of, next_ticket}
-use Rattle.stm_desk.specs.Ending.{MakesRoom}
+use Rattle.stm_desk.specs.Ending.{IsTurnedAway}
 use Rattle.stm_desk.specs.Settling.{Noted, Settles}
 use Rattle.stm_desk.specs.Waiting.{IsSeated, waiting_at}
 
@@ -121,8 +121,8 @@ pub record RunsFor (old : Work) (call : Call) (whose : ℕ) (job : Job) (new : W
 -- `begin`
 abbrev pub IsBegun : Work → Call → ℕ → Result Asked Refused → Work → Type 0
 IsBegun old call whose (Ok (asked.Runs job)) new = RunsFor old call whose job new
-IsBegun old call whose (Ok asked.ChapterFull) new = IsFull old.store × MakesRoom old × IsSame old new
+IsBegun old call whose (Ok asked.ChapterFull) new = IsFull old.store × IsTurnedAway old (Ok asked.ChapterFull) new
 IsBegun old call whose (Ok _) new = ⊥
 IsBegun old call whose (Err refused.Memory) new = IsGivenUp old new
-IsBegun old call whose (Err refused.NoRoom) new = IsFull old.store × (MakesRoom old → ⊥) × IsSame old new
+IsBegun old call whose (Err refused.NoRoom) new = IsFull old.store × IsTurnedAway old (Err refused.NoRoom) new
 IsBegun old call whose (Err _) new = ⊥

@@ -13,6 +13,7 @@ pub record StaysBut (old new : Store) (ticket : Ticket) : Type 0 where
   pub all_open : (other : Ticket) (call : Call) → other.0 ≢ ticket.0
       → HasOpenCall old other call → HasOpenCall new other call
   pub over : (other : Ticket) → IsOver old other → IsOver new other
+  pub over_before : (other : Ticket) → other.0 ≢ ticket.0 → IsOver new other → IsOver old other
 
 -- this became of the task with the ticket, which was not over before
 pub record HasBecome (old new : Store) (ticket : Ticket) (what : Became) : Type 0 where

@@ -37,7 +37,7 @@ pub enum Asked {
     /// It is long: its task runs, and is evaluated by whoever asked, outside the desk.
     Runs(Job),
     /// The chapter has no room for its task, but the next one would have: `end_chapter` begins that, once the host said
-    /// of the one before how it went. Nothing changed.
+    /// of the one before how it went. There is no task of it. Where only what ran left the room, that has had its turn.
     ChapterFull,
 }
 

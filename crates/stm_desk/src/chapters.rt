@@ -5,13 +5,12 @@ ghost use Rattle.book.specs.Turns.{IsIdle};
 ghost use Rattle.stm_store.specs.Keeping.{KeepsTasks};
 ghost use Rattle.stm_store.specs.declared.answers.Refused.TheVariants as Refused;
 ghost use Rattle.stm_desk.specs.Asking.{IsServed, IsStill};
-ghost use Rattle.stm_desk.specs.Ending.{EndsChapter, EndsNow, IsTurnedAway, Settled, TakesBack};
+ghost use Rattle.stm_desk.specs.Ending.{EndsChapter, EndsNow, Settled, TakesBack};
 ghost use Rattle.stm_desk.specs.History.{Begins};
 ghost use Rattle.stm_desk.specs.Running.{AreAwaited};
 ghost use Rattle.stm_desk.specs.Waiting.{waiting_at};
 ghost use Rattle.stm_desk.specs.declared.ended.Last.TheVariants as Last;
 
-use crate::answers::Asked;
 use crate::desk::Desk;
 use crate::ended::{Ended, Last, ended_now};
 use crate::work::Work;
@@ -131,15 +130,5 @@ impl Work {
         }
         self.last = Last::NotKept(ended);
         Ok(())
-    }
-
-    /// What a call is answered for which the chapter has no room.
-    pub(crate) fn turned_away(&self) -> Result<Asked, Refused>
-        ensures { IsTurnedAway self.now result }
-    {
-        if !self.last.is_not_kept() && self.store.has_room_next() {
-            return Ok(Asked::ChapterFull);
-        }
-        Err(Refused::NoRoom)
     }
 }

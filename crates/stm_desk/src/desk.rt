@@ -61,10 +61,13 @@ impl Desk {
     /// whoever called evaluates it by a worker, and brings what came of it. It is told as to others that wait.
     ///
     /// `Closed` exactly where the desk is closed; else `Unknown` exactly where there is no such transaction, or it has
-    /// not as many parameters as there are arguments; `Retries` only of a try that retries on the present values;
-    /// `NoRoom` only where there is no room for a task more, and a new chapter would have none either, or the one
-    /// before was not kept; else `ChapterFull`. Then nothing changed. `Memory`: a growth was refused, so the task was
-    /// given up, and for those who wait nothing changed.
+    /// not as many parameters as there are arguments; `Retries` only of a try that retries on the present values. Then
+    /// nothing changed. `Memory`: a growth was refused, so the task was given up, and for those who wait nothing
+    /// changed.
+    ///
+    /// Where there is no room for a task more: `ChapterFull` where a new chapter would have some, and nothing changed.
+    /// Where it would have none, what runs has its turn here first: `ChapterFull` where there is some then, and `NoRoom`
+    /// where even so each place is of a task that waits. `NoRoom` and no change where the chapter before was not kept.
     pub fn ask(
         &mut self,
         tx: TxId,
@@ -77,6 +80,7 @@ impl Desk {
         ensures first { self.new.work.first.value ≡ self.old.work.first.value }
         ensures closed { self.new.work.closed ≡ self.old.work.closed }
         ensures last { self.new.work.last ≡ self.old.work.last }
+        ensures chapter { self.new.work.store.chapter ≡ self.old.work.store.chapter }
     {
         if self.work.closed {
             return Err(Refused::Closed);

@@ -7,3 +7,5 @@ mod asking;
 mod ending;
 #[cfg(test)]
 mod long;
+#[cfg(test)]
+mod room;

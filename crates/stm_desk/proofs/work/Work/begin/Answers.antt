@@ -1,12 +1,14 @@
 use Rattle.std.proofs.Common.{◌≡◌, ◌∙◌, ℕ, ℤ, List, [], ◌∷◌, ◌++◌, Err, ap, length, refl, sym, subst}
+use Rattle.std.proofs.lemmas.List.{append-nil}
 use Rattle.txn_programs.specs.Listing.{Listing}
 use Rattle.stm_store.specs.Asking.{Submits}
 use Rattle.stm_store.specs.declared.job.Ticket.{Ticket}
 use Rattle.stm_desk.specs.declared.answers.Became.TheVariants as became
 use Rattle.stm_desk.specs.Asking.{next_ticket}
 use Rattle.stm_desk.specs.Running.{noted_by}
-use Rattle.stm_desk.proofs.Beginning.{IsClaimed, claim_alike, claimed_always, claimed_awaited, claimed_for, claimed_served, is_submitted, left_as_before, left_awaited, left_served, no_seat_keeps_on, none_begun, none_full, none_unchanged, seat_keeps_on, submitted_keeps, submitted_open}
+use Rattle.stm_desk.proofs.Beginning.{IsClaimed, claim_alike, claimed_always, claimed_awaited, claimed_for, claimed_served, is_submitted, left_as_before, left_awaited, left_served, no_seat_keeps_on, none_full, none_unchanged, seat_keeps_on, submitted_keeps, submitted_open}
 use Rattle.stm_desk.proofs.Becoming.{unchanged_alike}
+use Rattle.stm_desk.proofs.Turned.{none_begun, turned_back}
 use Rattle.stm_desk.proofs.Seats.{nobody_new}
 use Rattle.stm_desk.proofs.Settling.{alike_keeps, kept_of}
 use Rattle.stm_desk.proofs.work.Work.begin.Goals as goal
@@ -155,6 +157,9 @@ pub returns-in-Err-clause-begun : goal.returns-in-Err-clause-begun
 returns-in-Err-clause-begun c =
     let s = c.args.self.now in
     let new = c.submit.new.self in
+    let kept = c.in-Err.ensures.kept in
     let h = subst (λ (xs : List ℤ). Submits s.store c.args.call.now.tx xs (Err c.in-Err.field-0) new) c.as_slice.ensures.value c.in-Err.ensures.submitted in
     none_begun s _ c.args.call.now c.args.whose c.turned_away.result (none_full s.store new c.args.call.now c.in-Err.field-0 h)
-    (record { store = none_unchanged s.store new c.args.call.now c.in-Err.field-0 h; waiters = refl; history = refl; due = refl }) refl c.turned_away.ensures
+    (turned_back s _ _ c.turned_away.result c.turned_away.ensures.turned
+    (record { store = none_unchanged s.store new c.args.call.now c.in-Err.field-0 h; waiters = refl; history = refl; due = refl })
+    (record { first = refl; long = refl; catalogue = kept.catalogue; chapter = kept.chapter; closed = refl; last = refl; history = ([], sym (append-nil s.history.items)) }))

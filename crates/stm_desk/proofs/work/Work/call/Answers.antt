@@ -7,9 +7,9 @@ use Rattle.stm_desk.specs.declared.answers.Answer.{Answer}
 use Rattle.stm_desk.specs.History.{History}
 use Rattle.stm_desk.specs.Keeping.{Accounts}
 use Rattle.stm_desk.proofs.Answered.{only_waits, refused_answers, sit_answers}
-use Rattle.stm_desk.proofs.Becoming.{alike_over, unchanged_alike}
+use Rattle.stm_desk.proofs.Becoming.{alike_over, alike_was_over, unchanged_alike}
 use Rattle.stm_desk.proofs.Calling.{IsCalled, call_abandons, call_enters, call_parked, call_awaited, call_running, call_served, call_stays, is_called, next_is, number_is}
-use Rattle.stm_desk.proofs.Legal.{accounts_become, accounts_stay, counted_more, place_left}
+use Rattle.stm_desk.proofs.Legal.{accounts_become, accounts_stay, counted_more, place_left, stayed_over}
 use Rattle.stm_desk.proofs.Seats.{AreTold, all_told_on, nobody_new, seated_alike, seated_still, waits_as_before}
 use Rattle.stm_desk.proofs.Settling.{alike_awaited, alike_hands_out}
 use Rattle.stm_desk.proofs.work.Work.call.Goals as goal
@@ -23,7 +23,7 @@ invariant_of-self c =
     record {
       lends = λ none. absurd (cc (none));
       counted = s.counted;
-      accounts = ∥∥₁_map s.accounts (accounts_stay s.first.value s.store new s.history.items a.kept.store.catalogue a.present (λ t. alike_over s.store new t a));
+      accounts = ∥∥₁_map s.accounts (accounts_stay s.first.value s.store new s.history.items a.kept.store.catalogue a.present (λ t. alike_over s.store new t a) (λ t. alike_was_over s.store new t a));
       seated = seated_alike s.store new s.waiters a s.seated;
       told = s.told;
     }
@@ -188,7 +188,7 @@ invariant_of-self-in-Parked-clause-accounts c =
     let is = is_called s.store c.call-called.new.self c.args.call.now c.as_slice.result.now c.in-Ok.turn.0 c.in-Ok.turn.1 c.as_slice.ensures.value c.law.ensures.declared c.law.ensures.fits c.law.ensures.each c.law.ensures.tickets c.in-Ok.ensures.kept c.in-Ok.ensures.called.0 in
     let parked = subst (IsCalled s.store new call job) c.in-Parked.is is in
     let h = call_stays s.store new call job parked in
-    ∥∥₁_map s.accounts (accounts_stay s.first.value s.store new s.history.items h.stays.catalogue h.present h.stays.over)
+    ∥∥₁_map s.accounts (accounts_stay s.first.value s.store new s.history.items h.stays.catalogue h.present h.stays.over (stayed_over s.store new job.ticket call h))
 
 pub sit-requires : goal.sit-requires
 sit-requires c =

@@ -13,8 +13,9 @@ returns-clause-ended c =
     let settled : Settled s mid = record {
       still = c.serve_all.ensures.settled.still;
       due = c.serve_all.ensures.settled.due;
+      tickets = c.serve_all.ensures.settled.tickets;
       hands_on = c.serve_all.ensures.settled.hands_on;
-      goes_on = record { first = g.first; long = g.long; catalogue = g.catalogue; closed = g.closed; last = g.last ∙ none.0; history = g.history };
+      goes_on = record { first = g.first; long = g.long; catalogue = g.catalogue; chapter = g.chapter; closed = g.closed; last = g.last ∙ none.0; history = g.history };
     } in
     chapter_ends s mid c.begin_next.new.self c.begin_next.result (last_kept s.last (c.is_any_out.ensures.none c.if-is_any_out.false) none.1) settled c.begin_next.ensures.ended c.begin_next.ensures.out c.begin_next.ensures.memory c.begin_next.ensures.unchanged
 

@@ -26,7 +26,7 @@ loop-init c =
     let s = c.args.self.now in
     let new = c.make_ready.new.self in
     record {
-      goes_on = record { first = refl; long = refl; catalogue = c.make_ready.ensures.kept.store.catalogue; closed = refl; last = refl; history = ([], sym (append-nil s.history.items)) };
+      goes_on = record { first = refl; long = refl; catalogue = c.make_ready.ensures.kept.store.catalogue; chapter = c.make_ready.ensures.kept.store.chapter; closed = refl; last = refl; history = ([], sym (append-nil s.history.items)) };
       hands_on = hands_nothing s.waiters s.waiters refl;
       kept = c.make_ready.ensures.kept;
       still = readied_still s.store new c.make_ready.ensures.book;
@@ -49,8 +49,9 @@ returns-clause-settled c =
     record {
       still = c.serve_next.ensures.still refl c.loop.invariant.still;
       due = c.clear.ensures.items;
+      tickets = c.serve_next.ensures.kept.tickets ∙ c.loop.invariant.kept.tickets;
       hands_on = hands_both _ _ _ c.loop.invariant.hands_on c.serve_next.ensures.hands_on;
-      goes_on = record { first = g.first; long = g.long; catalogue = g.catalogue; closed = g.closed; last = g.last; history = g.history };
+      goes_on = record { first = g.first; long = g.long; catalogue = g.catalogue; chapter = g.chapter; closed = g.closed; last = g.last; history = g.history };
     }
 
 pub returns-clause-kept : goal.returns-clause-kept
