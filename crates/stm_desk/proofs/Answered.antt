@@ -1,6 +1,7 @@
 -- What a call is answered, by what the store answered.
 use Rattle.std.proofs.Common.{◌≡◌, ◌≢◌, ◌∙◌, ℕ, [], ◌∷◌, ◌++◌, Result, Ok, Err, IfErr, IfOk, OnErr, OnOk, false, refl, sym, ap, subst}
 use Rattle.txn_programs.specs.declared.arguments.Call.{Call}
+use Rattle.stm_store.specs.Tickets.{TicketsView}
 use Rattle.stm_store.specs.Turning.{RefusesCall}
 use Rattle.stm_store.specs.declared.answers.End.{End}
 use Rattle.stm_store.specs.declared.answers.End.TheVariants as end
@@ -15,9 +16,9 @@ use Rattle.stm_desk.specs.declared.answers.Asked.TheVariants as asked
 use Rattle.stm_desk.specs.declared.answers.Became.TheVariants as became
 use Rattle.stm_desk.specs.declared.work.Work.{Work}
 use Rattle.stm_desk.specs.declared.desk.Desk.{Desk}
-use Rattle.stm_desk.specs.Answering.{IsAsked}
+use Rattle.stm_desk.specs.Answering.{IsAsked, IsLent}
 use Rattle.stm_desk.specs.Running.{IsBegun, IsLong}
-use Rattle.stm_desk.specs.Asking.{IsAnswered, IsSame, next_ticket}
+use Rattle.stm_desk.specs.Asking.{IsAnswered, IsOneMore, IsSame, next_ticket}
 use Rattle.stm_desk.specs.Open.{IsParkedCall}
 use Rattle.stm_desk.specs.Waiting.{IsSeated, WaitAsBefore}
 
@@ -27,23 +28,24 @@ only_waits ways.Waits how is tries = refl
 only_waits ways.Tries how is tries = absurd (tries refl is)
 
 -- who sat down, or was refused memory
-pub sit_answers : (old new : Work) (mid : Store) (call : Call) (way : Way) (whose : ℕ) (ticket : Ticket) (r : Result Asked Refused) → way ≡ ways.Waits → ticket ≡ next_ticket old.store → IsParkedCall mid ticket call
+pub sit_answers : (old new : Work) (mid : Store) (call : Call) (way : Way) (whose : ℕ) (ticket : Ticket) (r : Result Asked Refused) → IsOneMore old.store mid → new.store.tickets ≡ mid.tickets → way ≡ ways.Waits → ticket ≡ next_ticket old.store → IsParkedCall mid ticket call
     → OnOk r (IsSeated old.waiters ticket whose call new.waiters × (new.store ≡ mid) × (new.history.items ≡ old.history.items) × (new.due.items ≡ old.due.items)) → IfOk r (λ a. a ≡ asked.Waits ticket) → IfErr r (λ why. why ≡ refused.Memory) → OnErr r ((new.history.items ≡ old.history.items ++ (ticket, became.Left) ∷ []) × WaitAsBefore old.waiters new.waiters × (new.due.items ≡ old.due.items))
     → IsAnswered old call way whose r new
-sit_answers old new mid call way whose ticket (Ok a) waits next parked seated is why left =
+sit_answers old new mid call way whose ticket (Ok a) more same waits next parked seated is why left =
     subst (λ (x : Asked). IsAnswered old call way whose (Ok x) new) (sym is) (
       waits,
       record {
         ticket_is = next;
+        given = ap (λ (t : TicketsView). t.given) same ∙ more;
         history = seated.2;
         parked = ∣ subst (λ (s : Store). IsParkedCall s ticket call) (sym seated.1) parked ∣₁;
         seated = seated.0;
         due = seated.3;
       },
     )
-sit_answers old new mid call way whose ticket (Err e) waits next parked seated is why left =
+sit_answers old new mid call way whose ticket (Err e) more same waits next parked seated is why left =
     subst (λ (x : Refused). IsAnswered old call way whose (Err x) new) (sym why)
-    (record { history = left.0 ∙ ap (λ (t : Ticket). old.history.items ++ (t, became.Left) ∷ []) next; waiters = left.1; due = left.2 })
+    (record { given = ap (λ (t : TicketsView). t.given) same ∙ more; history = left.0 ∙ ap (λ (t : Ticket). old.history.items ++ (t, became.Left) ∷ []) next; waiters = left.1; due = left.2 })
 
 -- one that was refused
 pub refused_answers : (old new : Work) (call : Call) (way : Way) (whose : ℕ) (why : Refused) → RefusesCall way old.store call.tx call.arguments why → IsSame old new → IsAnswered old call way whose (Err why) new
@@ -78,3 +80,11 @@ begun_asked old new call way whose (Err refused.Stale) is_open waits long h = ab
 begun_asked old new call way whose (Err refused.Retries) is_open waits long h = absurd h
 begun_asked old new call way whose (Err refused.Closed) is_open waits long h = absurd h
 begun_asked old new call way whose (Err refused.TimedOut) is_open waits long h = absurd h
+
+-- one that is begun had no turn here
+pub begun_lent : (old new : Work) (call : Call) (whose : ℕ) (r : Result Asked Refused) → IsBegun old call whose r new → IsLent r
+begun_lent old new call whose (Ok (asked.Runs job)) h = tt
+begun_lent old new call whose (Ok (asked.Ended a)) h = absurd h
+begun_lent old new call whose (Ok (asked.Waits t)) h = absurd h
+begun_lent old new call whose (Ok asked.ChapterFull) h = tt
+begun_lent old new call whose (Err why) h = tt

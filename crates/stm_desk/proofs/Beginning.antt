@@ -174,6 +174,7 @@ claimed_for old new mid call job ticket whose c seated history due =
     let made : HasOpenCall mid job.ticket call = subst (λ (t : Ticket). HasOpenCall mid t call) (sym own) (submitted_open old.store mid call ticket c.before) in
     record {
       ticket = own ∙ next;
+      given = ap (λ (t : TicketsView). t.given) (c.kept.tickets ∙ c.before.is.2);
       calls = sym (same_call mid job call (new_tickets old.store mid call (last_of old.store) ticket true m) c.is.1.0 made);
       present = present_on mid new.store job c.kept c.is.1;
       running = ap (λ (b : BookView). slice_get b.tasks job.task.0) c.is.3 ∙ runs_there mid.book.tasks job.task.0 Ready Running c.is.2;

@@ -30,7 +30,7 @@ use Rattle.stm_store.proofs.Rising.{one_of, tickets_more}
 use Rattle.stm_store.proofs.Submitted.{submitted_given, submitted_runs}
 use Rattle.stm_desk.specs.declared.answers.Became.TheVariants as became
 use Rattle.stm_desk.specs.declared.waiters.Waiters.{Waiters}
-use Rattle.stm_desk.specs.Asking.{IsServed, next_ticket}
+use Rattle.stm_desk.specs.Asking.{IsOneMore, IsServed, next_ticket}
 use Rattle.stm_desk.specs.Open.{HasOpen, HasOpenCall, IsOver, IsParkedCall, open_tasks}
 use Rattle.stm_desk.specs.Running.{AreAwaited, RunsAt}
 use Rattle.stm_desk.specs.Steps.{HasBecome, HasStayed, StaysBut}
@@ -357,6 +357,10 @@ is_called old new call given job how same declared fits each tickets kept runs =
       tickets = tickets;
       runs = subst (λ (xs : List ℤ). Runs old call.tx xs job how new) same runs;
     }
+
+-- there is one task more
+pub one_more : (old new : Store) (call : Call) (job : Job) (how : End) → IsCalled old new call job how → IsOneMore old new
+one_more old new call job how c = ap (λ (t : TicketsView). t.given) c.runs.tickets
 
 -- its task has the next ticket
 pub next_is : (old new : Store) (call : Call) (job : Job) (how : End) → IsCalled old new call job how → job.ticket ≡ next_ticket old

@@ -17,7 +17,7 @@ use Rattle.stm_desk.specs.declared.answers.Asked.TheVariants as asked
 use Rattle.stm_desk.specs.declared.answers.Became.TheVariants as became
 use Rattle.stm_desk.specs.declared.desk.Desk.{Desk}
 use Rattle.stm_desk.specs.declared.work.Work.{Work}
-use Rattle.stm_desk.specs.Asking.{GoesOn, IsGivenUp, IsSame, next_ticket}
+use Rattle.stm_desk.specs.Asking.{GoesOn, IsGivenUp, IsOneMore, IsSame, next_ticket}
 use Rattle.stm_desk.specs.Ending.{IsTurnedAway}
 use Rattle.stm_desk.specs.History.{Begins, History}
 use Rattle.stm_desk.specs.Open.{IsParkedCall}
@@ -27,12 +27,14 @@ use Rattle.stm_desk.specs.Waiting.{HandsOn, IsSeated}
 abbrev pub history_of : Desk → History
 history_of d = d.work.history.items
 
--- the call's own entry is the next one, at the place that is the history's length before; what it woke is behind it
+-- the call's own entry is the next one, at the place that is the history's length before; what it woke is behind it, and
+-- no other task was made
 pub record IsEnteredNext (old : Desk) (call : Call) (a : Answer) (new : Desk) : Type 0 where
   pub ticket : a.ticket ≡ next_ticket old.work.store
   pub chapter : a.chapter ≡ old.work.store.chapter
   pub entry : a.entry ≡ old.work.store.book.present.number + 1
   pub place : a.place ≡ length (history_of old)
+  pub given : IsOneMore old.work.store new.work.store
   pub history : Begins (history_of old ++ (a.ticket, became.Entered call a.outcome) ∷ []) (history_of new)
   pub hands_on : HandsOn old.work.waiters new.work.waiters
   pub hands_out : HandsOut old.work new.work
@@ -40,9 +42,11 @@ pub record IsEnteredNext (old : Desk) (call : Call) (a : Answer) (new : Desk) : 
 -- the task of the call retries, and whoever called waits for it
 pub record WaitsFor (old : Desk) (call : Call) (whose : ℕ) (ticket : Ticket) (new : Desk) : Type 0 where
   pub ticket_is : ticket ≡ next_ticket old.work.store
+  pub given : IsOneMore old.work.store new.work.store
   pub history : history_of new ≡ history_of old
   pub parked : ∥ IsParkedCall new.work.store ticket call ∥₁
   pub seated : IsSeated old.work.waiters ticket whose call new.work.waiters
+  pub due : new.work.due.items ≡ old.work.due.items
 
 -- why there is no task of the call; nothing changed
 abbrev pub RefusesAsked : Desk → Call → Way → Refused → Type 0
@@ -67,6 +71,12 @@ IsAsked old call way whose (Err refused.NoRoom) new =
     (old.work.closed ≡ false) × IsFull old.work.store × IsTurnedAway old.work (Err refused.NoRoom) new.work
 IsAsked old call way whose (Err refused.Memory) new = (old.work.closed ≡ false) × IsGivenUp old.work new.work
 IsAsked old call way whose (Err why) new = RefusesAsked old call way why × IsSame old.work new.work
+
+-- no turn at the desk was the answer, as for a long call that waits
+abbrev pub IsLent : Result Asked Refused → Type 0
+IsLent (Ok (asked.Ended a)) = ⊥
+IsLent (Ok (asked.Waits ticket)) = ⊥
+IsLent _ = Unit {0}
 
 -- `bring`: what came of it, and then what it woke; else nothing changed, and why
 abbrev pub HasBroughtIn : Desk → Worker → Result (Unit {0}) Refused → Desk → Type 0

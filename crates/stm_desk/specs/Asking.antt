@@ -42,6 +42,10 @@ IsStill s = (k : ℕ) → slice_get s.book.tasks k ≢ Some Running
 abbrev pub next_ticket : Store → Ticket
 next_ticket s = record { 0 = s.tickets.given }
 
+-- there is one task more, and no other
+abbrev pub IsOneMore : Store → Store → Type 0
+IsOneMore old new = new.tickets.given ≡ old.tickets.given + 1
+
 -- it is the next entry: of this call, by a task with the next ticket
 pub record IsNextEntry (old : Work) (call : Call) (a : Answer) (new : Work) : Type 0 where
   pub ticket : a.ticket ≡ next_ticket old.store
@@ -49,12 +53,14 @@ pub record IsNextEntry (old : Work) (call : Call) (a : Answer) (new : Work) : Ty
   pub entry : a.entry ≡ old.store.book.present.number + 1
   pub place : a.place ≡ length old.history.items
   pub history : new.history.items ≡ old.history.items ++ (a.ticket, became.Entered call a.outcome) ∷ []
+  pub given : IsOneMore old.store new.store
   pub waiters : new.waiters ≡ old.waiters
   pub due : new.due.items ≡ old.due.items
 
 -- the task of the call waits, and so does whoever called
 pub record IsWaiting (old : Work) (call : Call) (whose : ℕ) (ticket : Ticket) (new : Work) : Type 0 where
   pub ticket_is : ticket ≡ next_ticket old.store
+  pub given : IsOneMore old.store new.store
   pub history : new.history.items ≡ old.history.items
   pub parked : ∥ IsParkedCall new.store ticket call ∥₁
   pub seated : IsSeated old.waiters ticket whose call new.waiters
@@ -69,6 +75,7 @@ pub record IsSame (old new : Work) : Type 0 where
 
 -- there was no memory for it: its task was given up, and those who wait do so as before
 pub record IsGivenUp (old new : Work) : Type 0 where
+  pub given : IsOneMore old.store new.store
   pub history : new.history.items ≡ old.history.items ++ (next_ticket old.store, became.Left) ∷ []
   pub waiters : WaitAsBefore old.waiters new.waiters
   pub due : new.due.items ≡ old.due.items

@@ -21,7 +21,7 @@ use Rattle.stm_desk.specs.declared.answers.Due.{Due}
 use Rattle.stm_desk.specs.declared.waiters.Waiters.{Waiters}
 use Rattle.stm_desk.specs.declared.waiters.Waiting.{Waiting}
 use Rattle.stm_desk.specs.declared.work.Work.{Work}
-use Rattle.stm_desk.specs.Asking.{IsGivenUp, IsSame, call_of, next_ticket}
+use Rattle.stm_desk.specs.Asking.{IsGivenUp, IsOneMore, IsSame, call_of, next_ticket}
 use Rattle.stm_desk.specs.Ending.{IsTurnedAway}
 use Rattle.stm_desk.specs.Settling.{Noted, Settles}
 use Rattle.stm_desk.specs.Waiting.{IsSeated, waiting_at}
@@ -110,6 +110,7 @@ HasBroughtTo old w (Err why) new = Brings old.store w (Err why) new.store × IsS
 -- the task of a long call runs: whoever asked evaluates it, and waits for it
 pub record RunsFor (old : Work) (call : Call) (whose : ℕ) (job : Job) (new : Work) : Type 0 where
   pub ticket : job.ticket ≡ next_ticket old.store
+  pub given : IsOneMore old.store new.store
   pub calls : call_of job ≡ call
   pub present : IsPresentJob new.store job
   pub running : RunsAt new.store job.task.0

@@ -40,6 +40,7 @@ impl Desk {
         ensures history { Begins self.old.work.history.items self.new.work.history.items }
         ensures first { self.new.work.first.value ≡ self.old.work.first.value }
         ensures closed { self.new.work.closed ≡ self.old.work.closed }
+        ensures long { self.new.work.long.items ≡ self.old.work.long.items }
     {
         self.work.end_chapter()
     }
@@ -72,6 +73,7 @@ impl Work {
         ensures history { Begins self.old.history.items self.new.history.items }
         ensures first { self.new.first.value ≡ self.old.first.value }
         ensures closed { self.new.closed ≡ self.old.closed }
+        ensures long { self.new.long.items ≡ self.old.long.items }
     {
         if self.last.is_any_out() {
             return Err(Refused::NotEnded);
@@ -99,6 +101,7 @@ impl Work {
         ensures history { self.new.history.items ≡ self.old.history.items }
         ensures first { self.new.first.value ≡ self.old.first.value }
         ensures closed { self.new.closed ≡ self.old.closed }
+        ensures long { self.new.long.items ≡ self.old.long.items }
     {
         let Ok(ended) = ended_now(&self.store) else {
             return Err(Refused::Memory);

@@ -24,19 +24,21 @@ pub struct Desk {
 }
 
 impl Desk {
-    ghost use Rattle.std.specs.Prelude.{◌++◌, ◌⊎◌, [], false, IfSome, Some, option_to_list};
+    ghost use Rattle.std.specs.Prelude.{◌++◌, ◌⊎◌, ◌≢◌, [], false, Err, IfSome, Some, option_to_list};
     ghost use Rattle.book.specs.LawfulBook.{LawfulBook};
     ghost use Rattle.stm_desk.specs.declared.waiters.Waiting.{Waiting};
     ghost use Rattle.txn_programs.specs.Listing.{IsCallable};
     ghost use Rattle.stm_store.specs.Keeping.{HasBrought, KeepsTasks};
     ghost use Rattle.stm_desk.specs.Asking.{IsStill};
-    ghost use Rattle.stm_desk.specs.Answering.{HasBroughtIn, HasRun, IsAsked};
-    ghost use Rattle.stm_desk.specs.Running.{HandsOut, IsHanded};
+    ghost use Rattle.stm_desk.specs.Answering.{HasBroughtIn, HasRun, IsAsked, IsLent};
+    ghost use Rattle.stm_desk.specs.Running.{HandsOut, IsHanded, IsLong};
     ghost use Rattle.stm_desk.specs.Serving.{HasLeft, OnlyLeft};
     ghost use Rattle.stm_desk.specs.Waiting.{AreShutOut, HandsOn};
     ghost use Rattle.stm_desk.specs.History.{Begins};
     ghost use Rattle.stm_desk.specs.Keeping.{Accounts, IsToldOf};
     ghost use Rattle.stm_desk.specs.Open.{IsParkedCall, IsRunningCall};
+    ghost use Rattle.stm_store.specs.declared.answers.Refused.TheVariants as Refused;
+    ghost use Rattle.stm_store.specs.declared.answers.Way.TheVariants as Way;
     ghost use Rattle.stm_desk.specs.declared.ended.Last.TheVariants as Last;
 
     /// The desk of a store, whose ready tasks have had their turns then. None of its tasks may be running. `long` says
@@ -45,6 +47,7 @@ impl Desk {
     pub fn open(alloc: Global, store: Store, long: Vec<bool>) -> Desk
         requires still { IsStill store }
         ensures first { result.work.first.value ≡ store }
+        ensures kept { KeepsTasks store result.work.store }
         ensures is_open { result.work.closed ≡ false }
         ensures last { result.work.last ≡ Last.Kept }
         ensures waiters { (ticket : ℕ) → waiting_at result.work.waiters ticket ≡ None }
@@ -81,6 +84,10 @@ impl Desk {
         ensures closed { self.new.work.closed ≡ self.old.work.closed }
         ensures last { self.new.work.last ≡ self.old.work.last }
         ensures chapter { self.new.work.store.chapter ≡ self.old.work.store.chapter }
+        ensures long { self.new.work.long.items ≡ self.old.work.long.items }
+        ensures lent { way ≡ Way.Waits → IsLong self.old.work.long.items tx → IsLent result }
+        ensures known { result ≢ Err Refused.Closed → result ≢ Err Refused.Unknown
+            → IsCallable self.old.work.store.catalogue.now tx arguments.now }
     {
         if self.work.closed {
             return Err(Refused::Closed);
@@ -123,6 +130,8 @@ impl Desk {
         ensures first { self.new.work.first.value ≡ self.old.work.first.value }
         ensures closed { self.new.work.closed ≡ self.old.work.closed }
         ensures last { self.new.work.last ≡ self.old.work.last }
+        ensures long { self.new.work.long.items ≡ self.old.work.long.items }
+        ensures due { self.new.work.due.items ≡ self.old.work.due.items }
     {
         self.work.told()
     }
@@ -137,6 +146,7 @@ impl Desk {
         ensures first { self.new.work.first.value ≡ self.old.work.first.value }
         ensures closed { self.new.work.closed ≡ self.old.work.closed }
         ensures last { self.new.work.last ≡ self.old.work.last }
+        ensures long { self.new.work.long.items ≡ self.old.work.long.items }
     {
         self.work.next_due()
     }
@@ -157,6 +167,7 @@ impl Desk {
         ensures first { self.new.work.first.value ≡ self.old.work.first.value }
         ensures closed { self.new.work.closed ≡ self.old.work.closed }
         ensures last { self.new.work.last ≡ self.old.work.last }
+        ensures long { self.new.work.long.items ≡ self.old.work.long.items }
     {
         self.work.bring(worker)?;
         self.work.serve();
@@ -177,6 +188,7 @@ impl Desk {
         ensures first { self.new.work.first.value ≡ self.old.work.first.value }
         ensures closed { self.new.work.closed ≡ self.old.work.closed }
         ensures last { self.new.work.last ≡ self.old.work.last }
+        ensures long { self.new.work.long.items ≡ self.old.work.long.items }
     {
         self.work.turn(job)?;
         self.work.serve();
@@ -190,6 +202,8 @@ impl Desk {
         ensures first { self.new.work.first.value ≡ self.old.work.first.value }
         ensures closed { self.new.work.closed ≡ self.old.work.closed }
         ensures last { self.new.work.last ≡ self.old.work.last }
+        ensures long { self.new.work.long.items ≡ self.old.work.long.items }
+        ensures kept { KeepsTasks self.old.work.store self.new.work.store }
     {
         self.work.leave(ticket)
     }
@@ -210,6 +224,8 @@ impl Desk {
         ensures nobody { (ticket : ℕ) → waiting_at self.new.work.waiters ticket ≡ None }
         ensures told { AreShutOut self.old.work.waiters self.new.work.waiters }
         ensures first { self.new.work.first.value ≡ self.old.work.first.value }
+        ensures long { self.new.work.long.items ≡ self.old.work.long.items }
+        ensures kept { KeepsTasks self.old.work.store self.new.work.store }
     {
         self.work.shut_out();
     }

@@ -1,6 +1,6 @@
 //! Long calls: whoever asks evaluates the transaction by a worker, outside the desk, and brings what came of it.
 
-ghost use Rattle.std.specs.Prelude.{◌≡◌, ◌↔◌, IsTrue, true};
+ghost use Rattle.std.specs.Prelude.{◌≡◌, ◌↔◌, IsTrue, false, true};
 ghost use Rattle.txn_programs.specs.Listing.{IsCallable};
 ghost use Rattle.stm_store.specs.declared.answers.Way.TheVariants as Way;
 ghost use Rattle.stm_desk.specs.Asking.{GoesOn, IsServed};
@@ -23,7 +23,8 @@ pub(crate) fn is_long(long: &[bool], tx: TxId) -> bool
 
 /// Whether whoever calls evaluates the transaction: it is long, and the call waits.
 pub(crate) fn is_begun(long: &[bool], way: Way, tx: TxId) -> bool
-    ensures { result ≡ true → (way ≡ Way.Waits) × IsLong long.now tx }
+    ensures begun { result ≡ true → (way ≡ Way.Waits) × IsLong long.now tx }
+    ensures here { result ≡ false → way ≡ Way.Waits → IsLong long.now tx → ⊥ }
 {
     matches!(way, Way::Waits) && is_long(long, tx)
 }

@@ -159,6 +159,7 @@ impl Work {
         ensures first { self.new.first.value ≡ self.old.first.value }
         ensures closed { self.new.closed ≡ self.old.closed }
         ensures last { self.new.last ≡ self.old.last }
+        ensures long { self.new.long.items ≡ self.old.long.items }
     {
         while let Some(job) = self.due.pop_front() {
             if let Some(whose) = self.waiters.whose(job.ticket) {

@@ -146,6 +146,7 @@ impl Work {
         ensures left { OnErr result ((self.new.history.items ≡ self.old.history.items ++ (ticket, Became.Left) ∷ [])
             × WaitAsBefore self.old.waiters self.new.waiters × (self.new.due.items ≡ self.old.due.items)) }
         ensures hands_out { HandsNothingOut self.old self.new }
+        ensures tickets { self.new.store.tickets ≡ self.old.store.tickets }
         ensures served { IsServed self.old.store → IsServed self.new.store }
         ensures awaited { AreAwaited self.old.store self.old.waiters → AreAwaited self.new.store self.new.waiters }
         ensures goes_on { GoesOn self.old self.new }
@@ -168,6 +169,8 @@ impl Work {
         ensures first { self.new.first.value ≡ self.old.first.value }
         ensures closed { self.new.closed ≡ self.old.closed }
         ensures last { self.new.last ≡ self.old.last }
+        ensures long { self.new.long.items ≡ self.old.long.items }
+        ensures due { self.new.due.items ≡ self.old.due.items }
     {
         self.waiters.next()
     }
@@ -180,6 +183,8 @@ impl Work {
         ensures first { self.new.first.value ≡ self.old.first.value }
         ensures closed { self.new.closed ≡ self.old.closed }
         ensures last { self.new.last ≡ self.old.last }
+        ensures long { self.new.long.items ≡ self.old.long.items }
+        ensures kept { KeepsTasks self.old.store self.new.store }
     {
         if !self.waiters.has(ticket) {
             return Err(Refused::Gone);
@@ -217,6 +222,8 @@ impl Work {
         ensures first { self.new.first.value ≡ self.old.first.value }
         ensures closed { self.new.closed ≡ true }
         ensures last { self.new.last ≡ self.old.last }
+        ensures long { self.new.long.items ≡ self.old.long.items }
+        ensures kept { KeepsTasks self.old.store self.new.store }
     {
         self.closed = true;
         while self.shut_one_out() {}
@@ -235,6 +242,8 @@ impl Work {
         ensures first { self.new.first.value ≡ self.old.first.value }
         ensures closed { self.new.closed ≡ self.old.closed }
         ensures last { self.new.last ≡ self.old.last }
+        ensures long { self.new.long.items ≡ self.old.long.items }
+        ensures kept { KeepsTasks self.old.store self.new.store }
     {
         let Some(ticket) = self.waiters.lowest() else {
             return false;

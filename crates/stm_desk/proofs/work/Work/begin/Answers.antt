@@ -2,6 +2,7 @@ use Rattle.std.proofs.Common.{◌≡◌, ◌∙◌, ℕ, ℤ, List, [], ◌∷�
 use Rattle.std.proofs.lemmas.List.{append-nil}
 use Rattle.txn_programs.specs.Listing.{Listing}
 use Rattle.stm_store.specs.Asking.{Submits}
+use Rattle.stm_store.specs.Tickets.{TicketsView}
 use Rattle.stm_store.specs.declared.job.Ticket.{Ticket}
 use Rattle.stm_desk.specs.declared.answers.Became.TheVariants as became
 use Rattle.stm_desk.specs.Asking.{next_ticket}
@@ -127,6 +128,7 @@ returns-in-Err-seat-clause-begun c =
     let up = c.give_up.ensures.given_up in
     let next : ticket ≡ next_ticket s.store = ap (λ (n : ℕ). let t : Ticket = record { 0 = n } in t) sub.is.1 in
     record {
+      given = ap (λ (t : TicketsView). t.given) (c.give_up.ensures.kept.tickets ∙ sub.is.2);
       history = up.history ∙ ap (λ (t : Ticket). s.history.items ++ (t, became.Left) ∷ []) next;
       waiters = left_as_before s.waiters c.seat.new.self c.give_up.new.self.waiters ticket (nobody_new s.store s.waiters ticket c.law.ensures.tickets sub.is.1 s.seated) c.in-Err-seat.ensures.refused c.in-Err-seat.ensures.told up.gone up.others up.told;
       due = up.due;

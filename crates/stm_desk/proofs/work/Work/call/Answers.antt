@@ -8,7 +8,7 @@ use Rattle.stm_desk.specs.History.{History}
 use Rattle.stm_desk.specs.Keeping.{Accounts}
 use Rattle.stm_desk.proofs.Answered.{only_waits, refused_answers, sit_answers}
 use Rattle.stm_desk.proofs.Becoming.{alike_over, alike_was_over, unchanged_alike}
-use Rattle.stm_desk.proofs.Calling.{IsCalled, call_abandons, call_enters, call_parked, call_awaited, call_running, call_served, call_stays, is_called, next_is, number_is}
+use Rattle.stm_desk.proofs.Calling.{IsCalled, call_abandons, call_enters, call_parked, call_awaited, call_running, call_served, call_stays, is_called, next_is, number_is, one_more}
 use Rattle.stm_desk.proofs.Legal.{accounts_become, accounts_stay, counted_more, place_left, stayed_over}
 use Rattle.stm_desk.proofs.Seats.{AreTold, all_told_on, nobody_new, seated_alike, seated_still, waits_as_before}
 use Rattle.stm_desk.proofs.Settling.{alike_awaited, alike_hands_out}
@@ -95,6 +95,7 @@ returns-in-Entered-clause-answered c =
       chapter = ap (λ (a : Answer). a.chapter) told ∙ is.runs.is_new.chapter;
       entry = ap (λ (a : Answer). a.entry) told ∙ number_is s.store new call job e (subst (IsCalled s.store new call job) c.in-Entered.is is);
       place = ap (λ (a : Answer). a.place) told ∙ s.counted;
+      given = one_more s.store new call job c.in-Ok.turn.1 is;
       history = c.note.ensures.history ∙ ap (λ (a : Answer). s.history.items ++ (a.ticket, became.Entered call a.outcome) ∷ []) (sym told);
       waiters = refl;
       due = refl;
@@ -154,6 +155,7 @@ returns-in-Abandoned-clause-answered c =
     let job = c.in-Ok.turn.0 in
     let is = is_called s.store c.call-called.new.self c.args.call.now c.as_slice.result.now c.in-Ok.turn.0 c.in-Ok.turn.1 c.as_slice.ensures.value c.law.ensures.declared c.law.ensures.fits c.law.ensures.each c.law.ensures.tickets c.in-Ok.ensures.kept c.in-Ok.ensures.called.0 in
     record {
+      given = one_more s.store new call job c.in-Ok.turn.1 is;
       history = c.note-in-Abandoned.ensures.history ∙ ap (λ (t : Ticket). s.history.items ++ (t, became.Left) ∷ []) (next_is s.store new call job c.in-Ok.turn.1 is);
       waiters = waits_as_before s.waiters;
       due = refl;
@@ -211,7 +213,7 @@ returns-in-Parked-clause-answered c =
     let job = c.in-Ok.turn.0 in
     let is = is_called s.store c.call-called.new.self c.args.call.now c.as_slice.result.now c.in-Ok.turn.0 c.in-Ok.turn.1 c.as_slice.ensures.value c.law.ensures.declared c.law.ensures.fits c.law.ensures.each c.law.ensures.tickets c.in-Ok.ensures.kept c.in-Ok.ensures.called.0 in
     let parked = subst (IsCalled s.store new call job) c.in-Parked.is is in
-    sit_answers s _ new call c.args.way c.args.whose job.ticket c.sit.result (only_waits c.args.way c.in-Ok.turn.1 c.in-Parked.is c.in-Ok.ensures.called.1) (next_is s.store new call job c.in-Ok.turn.1 is) (call_parked s.store new call job parked)
+    sit_answers s _ new call c.args.way c.args.whose job.ticket c.sit.result (one_more s.store new call job c.in-Ok.turn.1 is) c.sit.ensures.tickets (only_waits c.args.way c.in-Ok.turn.1 c.in-Parked.is c.in-Ok.ensures.called.1) (next_is s.store new call job c.in-Ok.turn.1 is) (call_parked s.store new call job parked)
     c.sit.ensures.seated c.sit.ensures.asked c.sit.ensures.refused c.sit.ensures.left
 
 pub returns-in-Parked-clause-served : goal.returns-in-Parked-clause-served

@@ -24,4 +24,5 @@ loop-job-preserved c =
       first = so_far.first;
       closed = so_far.closed;
       last = so_far.last;
+      long = so_far.long;
     }

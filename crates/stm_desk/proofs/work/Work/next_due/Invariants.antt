@@ -13,6 +13,7 @@ invariant-loop-job l = record {
   first : l.self.first.value ≡ l.initial.self.first.value;
   closed : l.self.closed ≡ l.initial.self.closed;
   last : l.self.last ≡ l.initial.self.last;
+  long : l.self.long.items ≡ l.initial.self.long.items;
 }
 
 abbrev pub decreases-loop-job : goal.decreases-loop-job

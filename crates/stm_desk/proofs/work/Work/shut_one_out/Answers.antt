@@ -7,7 +7,7 @@ use Rattle.stm_desk.proofs.Becoming.{gives_up, gives_up_served, open_gives_up}
 use Rattle.stm_desk.proofs.Handing.{shut_nothing, shut_told}
 use Rattle.stm_desk.proofs.Legal.{accounts_become, counted_more, place_left}
 use Rattle.stm_desk.proofs.Seats.{seated_but, told_shut, waits_open}
-use Rattle.stm_desk.proofs.Settling.{gives_up_awaited}
+use Rattle.stm_desk.proofs.Settling.{gives_up_awaited, keeps_nothing}
 use Rattle.stm_desk.proofs.work.Work.shut_one_out.Goals as goal
 
 pub unreachable-requires : goal.unreachable-requires
@@ -50,6 +50,9 @@ returns-clause-served c = gives_up_served c.args.self.now.store c.give_up.new.se
 
 pub returns-in_default-clause-told : goal.returns-in_default-clause-told
 returns-in_default-clause-told c = shut_nothing c.args.self.now.waiters c.args.self.now.waiters refl
+
+pub returns-in_default-clause-kept : goal.returns-in_default-clause-kept
+returns-in_default-clause-kept c = keeps_nothing c.args.self.now.store
 
 pub returns-clause-told : goal.returns-clause-told
 returns-clause-told c = shut_told c.args.self.now.waiters c.tell.new.self c.in-Some.ticket c.tell.ensures.gone c.tell.ensures.others c.tell.ensures.told

@@ -8,6 +8,7 @@ use Rattle.stm_desk.specs.declared.answers.Became.TheVariants as became
 use Rattle.stm_desk.proofs.Handing.{shut_both, shut_nothing}
 use Rattle.stm_desk.proofs.Legal.{only_left_both}
 use Rattle.stm_desk.proofs.Seats.{all_told_closed}
+use Rattle.stm_desk.proofs.Settling.{keeps_both, keeps_nothing}
 use Rattle.stm_desk.proofs.work.Work.shut_out.Goals as goal
 
 pub loop-preserved : goal.loop-preserved
@@ -22,6 +23,8 @@ loop-preserved c =
       first = one.first ∙ so_far.first;
       closed = one.closed ∙ so_far.closed;
       last = one.last ∙ so_far.last;
+      long = one.long ∙ so_far.long;
+      kept = keeps_both _ _ _ so_far.kept one.kept;
     }
 
 pub loop-init : goal.loop-init
@@ -35,10 +38,15 @@ loop-init c =
       first = refl;
       closed = refl;
       last = refl;
+      long = refl;
+      kept = keeps_nothing s.store;
     }
 
 pub returns-clause-told : goal.returns-clause-told
 returns-clause-told c = shut_both _ _ _ c.loop.invariant.told c.shut_one_out.ensures.told
+
+pub returns-clause-kept : goal.returns-clause-kept
+returns-clause-kept c = keeps_both _ _ _ c.loop.invariant.kept c.shut_one_out.ensures.kept
 
 pub returns-clause-history : goal.returns-clause-history
 returns-clause-history c = only_left_both _ _ _ c.loop.invariant.left c.shut_one_out.ensures.history

@@ -1,5 +1,6 @@
 use Rattle.std.specs.BTreeMap.{btree_map_len}
 use Rattle.std.proofs.Common.{◌≡◌, true}
+use Rattle.stm_store.specs.Keeping.{KeepsTasks}
 use Rattle.stm_desk.specs.Asking.{IsServed}
 use Rattle.stm_desk.specs.Running.{AreAwaited}
 use Rattle.stm_desk.specs.Serving.{OnlyLeft}
@@ -15,6 +16,8 @@ invariant-loop l = record {
   first : l.self.first.value ≡ l.initial.self.first.value;
   closed : l.self.closed ≡ true;
   last : l.self.last ≡ l.initial.self.last;
+  long : l.self.long.items ≡ l.initial.self.long.items;
+  kept : KeepsTasks l.initial.self.store l.self.store;
 }
 
 abbrev pub decreases-loop : goal.decreases-loop
