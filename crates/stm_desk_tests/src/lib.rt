@@ -8,4 +8,6 @@ mod ending;
 #[cfg(test)]
 mod long;
 #[cfg(test)]
+mod programs;
+#[cfg(test)]
 mod room;
