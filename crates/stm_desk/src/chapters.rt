@@ -1,6 +1,6 @@
 //! The chapters of a desk.
 
-ghost use Rattle.std.specs.Prelude.{◌≡◌, ℕ, None, IfErr, IfOk, OnErr};
+ghost use Rattle.std.specs.Prelude.{◌≡◌, ◌↔◌, ℕ, None, IfErr, IfOk, IsTrue, OnErr};
 ghost use Rattle.book.specs.Turns.{IsIdle};
 ghost use Rattle.stm_store.specs.Keeping.{KeepsTasks};
 ghost use Rattle.stm_store.specs.declared.answers.Refused.TheVariants as Refused;
@@ -43,6 +43,13 @@ impl Desk {
         ensures long { self.new.work.long.items ≡ self.old.work.long.items }
     {
         self.work.end_chapter()
+    }
+
+    /// Whether the host has the chapter of this number, of this desk, and did not say yet whether it was kept.
+    pub fn has_out(&self, chapter: u64) -> bool
+        ensures { IsTrue result ↔ (self.now.work.last ≡ Last.Out chapter) }
+    {
+        self.work.last.is_out(chapter)
     }
 
     /// The host kept the chapter: it is over. `Err`, and nothing changed, where it is not the one that the host has of

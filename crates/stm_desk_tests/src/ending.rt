@@ -84,6 +84,8 @@ fn is_out_once(desk: &mut Desk) -> bool {
         return false;
     };
     matches!(desk.end_chapter(), Err(Refused::NotEnded))
+        && desk.has_out(0)
+        && !desk.has_out(1)
         && fill(desk, 1)
         && is_full(desk)
         && desk.not_kept(first).is_ok()
