@@ -19,6 +19,7 @@ IN_C = [
     ("tests/results.c", [], GOOD),
     ("tests/chapters.c", [], GOOD),
     ("tests/answers.c", [], GOOD),
+    ("tests/desk.c", [], GOOD),
     ("tests/programs.c", ["4"], GOOD),
     ("tests/lock.c", ["2000"], GOOD),
     ("tests/service.c", [], GOOD),

@@ -128,7 +128,7 @@ struct stm_service {
 };
 
 /* An answer of no task. */
-static stm_answer bare(int32_t code) { return (stm_answer){-1, code, 0, 0, 0}; }
+static stm_answer bare(int32_t code) { return (stm_answer){-1, code, 0, 0, 0, 0}; }
 
 static bool is_long(const stm_service *s, uint32_t transaction) {
     return s->long_ones && transaction < s->transactions && s->long_ones[transaction];

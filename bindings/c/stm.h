@@ -60,6 +60,8 @@ enum stm_code {
     STM_RUNNING = 14,
     /* As STM_THROWN .. STM_BROKEN: the transaction named a cell outside its table. The task is done. */
     STM_OUTSIDE = 16,
+    /* Of a desk (desk.h): the chapter has no room for the call's task, and is to end first. Nothing changed. */
+    STM_CHAPTER_FULL = 17,
     /* `stm_check`: the first part of the report that does not hold. */
     STM_BAD_TEXT = 101,
     STM_BAD_BASE = 102,
@@ -84,7 +86,8 @@ enum stm_code {
     STM_UNKNOWN = -9,
     /* `open`: more than 32 workers. `open_worker`: none is left. It and `open_lender`: there is no transaction. */
     STM_NO_WORKER = -10,
-    /* The worker has no ended attempt to bring. */
+    /* The worker has no ended attempt to bring. Of a desk (desk.h): the host did not say yet whether the last chapter was
+       kept; or it is another chapter. */
     STM_NOT_ENDED = -11,
     /* The handle is empty; or `out` is not. */
     STM_EMPTY = -12,
@@ -115,15 +118,17 @@ enum stm_code {
 };
 
 /* What became of a task: its ticket; a code; what was returned (STM_DONE), what was thrown (STM_THROWN) or the number of a
- * condition (STM_BROKEN), else 0; the chapter in which the task had its turn or stands, from 0 on; and the number of its
- * entry there, 0 where there is none. Where the answer is about no task, as where nothing changed, the ticket is -1 and
- * the chapter 0. */
+ * condition (STM_BROKEN), else 0; the chapter in which the task had its turn or stands, from 0 on; the number of its
+ * entry there, 0 where there is none; and, of a call of a desk (desk.h) or a service (service.h) that was entered, the
+ * place of the entry in the history of all, counted from 0, else 0. Where the answer is about no task, as where nothing
+ * changed, the ticket is -1 and the chapter 0. */
 typedef struct stm_answer {
     int64_t ticket;
     int32_t code;
     int64_t value;
     uint64_t chapter;
     uint64_t entry;
+    uint64_t place;
 } stm_answer;
 
 /* A task that was taken: its ticket; the chapter in which it was taken, and its number there; and its call: the

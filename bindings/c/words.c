@@ -37,6 +37,7 @@ const char *stm_word(int32_t code) {
     case STM_DIVIDE_BY_ZERO: return "divide by zero";
     case STM_BROKEN: return "broken condition";
     case STM_OUTSIDE: return "outside its table";
+    case STM_CHAPTER_FULL: return "the chapter is full";
     case STM_MORE: return "more states are reached";
     case STM_NO_END: return "no such end";
     case STM_NO_ENTRY: return "no entry in the journal";

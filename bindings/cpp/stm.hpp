@@ -388,7 +388,7 @@ private:
 
     explicit service(std::unique_ptr<held> made) noexcept : held_(std::move(made)) {}
 
-    static stm_answer none(std::int32_t code) noexcept { return {-1, code, 0, 0, 0}; }
+    static stm_answer none(std::int32_t code) noexcept { return {-1, code, 0, 0, 0, 0}; }
 
     /// The number that a call answers, where it is not below 0.
     template <class Number, class Call, class... Given>

@@ -26,6 +26,7 @@ static const struct {
     {13, "ready"},
     {14, "running"},
     {16, "outside its table"},
+    {17, "the chapter is full"},
     {101, "report: text"},
     {102, "report: base"},
     {103, "report: entries"},

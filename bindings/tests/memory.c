@@ -5,30 +5,10 @@
  * It brings its own memory, and counts blocks and requests.
  */
 #include "stm.h"
-#include "memory.h"
+#include "refusing.h"
 
 #include <stdio.h>
 #include <stdlib.h>
-
-static long requests, refused, blocks;
-
-static int refuses(void) { return ++requests == refused; }
-
-struct block rattle_alloc(size_t size, size_t align) {
-    void *at = refuses() ? NULL : malloc(size ? size : align);
-    if (at) blocks++;
-    return told(at);
-}
-
-struct block rattle_realloc(void *old, size_t old_size, size_t size, size_t align) {
-    (void)old_size;
-    return told(refuses() ? NULL : realloc(old, size ? size : align));
-}
-
-void rattle_dealloc(void *old) {
-    blocks--;
-    free(old);
-}
 
 static uint8_t file[1 << 20], room[8388608];
 static size_t length, wanted;

@@ -1,6 +1,6 @@
 /* stack FILE [refused]: makes each kind of call on the file, on a stack that was painted before, and prints the bytes of it
  * that the most greedy call has touched. With a second word each call has to refuse the file for a name. */
-#include "stm.h"
+#include "desk.h"
 
 #include <pthread.h>
 #include <stdio.h>
@@ -8,7 +8,7 @@
 #include <string.h>
 #include <sys/mman.h>
 
-enum { SIZE = 1 << 20, PAINT = 0xa5, CALLS = 6 };
+enum { SIZE = 1 << 20, PAINT = 0xa5, CALLS = 7 };
 
 static uint8_t file[1 << 20], report[8388608], *room;
 static size_t length, report_length, wanted;
@@ -42,6 +42,46 @@ static int32_t host(void) {
     return STM_DONE;
 }
 
+/* What came of a call is told; what is long is tried, brought, and run. */
+static void asks(stm_desk *desk, stm_worker *worker, uint32_t transaction, uint32_t way) {
+    stm_job job;
+    if (stm_desk_ask(desk, transaction, NULL, 0, way, 1, &job).code == STM_RUNNING) {
+        if (stm_try_job(worker, job) == STM_DONE) stm_desk_bring(desk, worker);
+        stm_desk_run_now(desk, job);
+    }
+    stm_desk_next_told(desk);
+    stm_desk_next_due(desk);
+}
+
+/* A desk, which is asked for each transaction, and two chapters of it. */
+static int32_t desk(void) {
+    stm_program program = {0};
+    stm_store store = {0};
+    stm_worker worker = {0};
+    stm_desk desk = {0};
+    stm_ended ended = {0};
+    int32_t code = stm_read(file, length, &program);
+    if (refused) return code;
+    if (code != STM_DONE || stm_open(&program, 1, 3, &store) != STM_DONE) exit(2);
+    stm_open_worker(&store, &worker);
+    if (stm_open_desk(&store, &desk) != STM_DONE) exit(2);
+    for (int chapter = 0; chapter < 2; chapter++) {
+        for (uint32_t transaction = 0; transaction < stm_program_transactions(&program); transaction++)
+            for (uint32_t way = STM_WAITS; way <= STM_TRIES; way++) asks(&desk, &worker, transaction, way);
+        stm_desk_report(&desk, room, sizeof report, &wanted);
+        stm_desk_file(&desk, room, sizeof report, &wanted);
+        if (stm_desk_end_chapter(&desk, &ended) != STM_DONE) exit(2);
+        stm_ended_report(&ended, room, sizeof report, &wanted);
+        stm_ended_file(&ended, room, sizeof report, &wanted);
+        if (stm_desk_kept(&desk, &ended) != STM_DONE) exit(2);
+    }
+    stm_desk_close(&desk);
+    stm_worker_free(&worker);
+    stm_desk_free(&desk);
+    stm_program_free(&program);
+    return STM_DONE;
+}
+
 static void *makes(void *unused) {
     int32_t code = 0;
     switch (call) {
@@ -50,7 +90,8 @@ static void *makes(void *unused) {
     case 2: code = stm_world(file, length, (const uint8_t *)schedule, strlen(schedule), room, sizeof report, &wanted); break;
     case 3: code = stm_explore(file, length, 100, room, sizeof report, &wanted); break;
     case 4: code = stm_explore_to(file, length, 100, 1, room, sizeof report, &wanted); break;
-    default: code = host();
+    case 5: code = host(); break;
+    default: code = desk();
     }
     if (refused ? code != STM_FILE_NAME : code < 0) fprintf(stderr, "call %d answers %d\n", call, (int)code), exit(2);
     return unused;

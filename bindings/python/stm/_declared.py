@@ -19,6 +19,7 @@ class Answer(ctypes.Structure):
         ("value", ctypes.c_int64),
         ("chapter", ctypes.c_uint64),
         ("entry", ctypes.c_uint64),
+        ("place", ctypes.c_uint64),
     ]
 
 

@@ -25,6 +25,7 @@ struct Told {
     value: i64,
     chapter: u64,
     entry: u64,
+    place: u64,
 }
 
 #[repr(C)]

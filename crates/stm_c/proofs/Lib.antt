@@ -1,8 +1,13 @@
 pub mod Crossing
+pub mod DeskGiving
+pub mod DeskHandle
+pub mod DeskTickets
+pub mod EndedHandle
 pub mod LenderHandle
 pub mod ProgramHandle
 pub mod ProgramReads
 pub mod Refused
+pub mod StillTasks
 pub mod StoreHandle
 pub mod WorkerHandle
 pub mod Written

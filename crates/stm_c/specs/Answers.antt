@@ -14,7 +14,7 @@ use Rattle.stm_c.specs.Numbers.{empty_handle, number_of_refused, number_of_ticke
 
 -- a code, and no task
 abbrev pub bare : ℤ → Answer
-bare code = record { ticket = negsuc 0; code = code; value = pos 0; chapter = 0; entry = 0 }
+bare code = record { ticket = negsuc 0; code = code; value = pos 0; chapter = 0; entry = 0; place = 0 }
 
 -- the handle is empty
 abbrev pub nothing_held : Answer
@@ -26,7 +26,7 @@ refusal why = bare (number_of_refused why)
 
 -- the task of this ticket in this chapter, and a code
 abbrev pub about : ℤ → ℕ → ℤ → Answer
-about ticket chapter code = record { ticket = ticket; code = code; value = pos 0; chapter = chapter; entry = 0 }
+about ticket chapter code = record { ticket = ticket; code = code; value = pos 0; chapter = chapter; entry = 0; place = 0 }
 
 -- the task, and what its entry says
 abbrev pub by_entry : ℤ → ℕ → Entered → Answer
@@ -36,6 +36,7 @@ by_entry ticket chapter e = record {
   value = value_of_outcome e.outcome;
   chapter = chapter;
   entry = e.number;
+  place = 0;
 }
 
 -- what came of a turn of the task; else why it had none

@@ -1,6 +1,5 @@
 -- What a call does if a handle may be empty.
 use Rattle.std.specs.Prelude.{◌≡◌, Option, Some, None}
-use Rattle.stm_store.specs.declared.store.Store.{Store}
 
 -- where the handle is empty, it stays so and the answer says it; else the call is made on what it holds, and it holds what is left
 abbrev pub On : {X A : Type 0} → Option X → Option X → A → A → (X → A → X → Type 0) → Type 0
@@ -19,12 +18,12 @@ abbrev pub HoldsSome : {X : Type 0} → (X → Type 0) → Option X → Type 0
 HoldsSome Is None = ⊥
 HoldsSome Is (Some held) = Is held
 
--- the same as `On` of a call on a store and on what another handle holds: both handles are as they were where one is
+-- the same as `On` of a call on what two handles hold: both handles are as they were where one is
 -- empty
-abbrev pub OnBoth : {X A : Type 0} → Option Store → Option X → Option Store → Option X → A → A
-    → (Store → X → A → Store → X → Type 0) → Type 0
+abbrev pub OnBoth : {S X A : Type 0} → Option S → Option X → Option S → Option X → A → A
+    → (S → X → A → S → X → Type 0) → Type 0
 OnBoth (Some old) (Some before) (Some new) (Some after) empty answer Call = Call old before answer new after
 OnBoth (Some old) (Some before) (Some new) None empty answer Call = ⊥
-OnBoth (Some old) (Some before) None worker empty answer Call = ⊥
-OnBoth (Some old) None store worker empty answer Call = (answer ≡ empty) × (store ≡ Some old) × (worker ≡ None)
-OnBoth None before store worker empty answer Call = (answer ≡ empty) × (store ≡ None) × (worker ≡ before)
+OnBoth (Some old) (Some before) None other empty answer Call = ⊥
+OnBoth (Some old) None one other empty answer Call = (answer ≡ empty) × (one ≡ Some old) × (other ≡ None)
+OnBoth None before one other empty answer Call = (answer ≡ empty) × (one ≡ None) × (other ≡ before)

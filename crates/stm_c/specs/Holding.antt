@@ -6,6 +6,10 @@ use Rattle.stm_store.specs.declared.lender.Lender.{Lender}
 use Rattle.stm_c.specs.declared.lender_handle.LenderHandle.{LenderHandle}
 use Rattle.stm_store.specs.declared.worker.Worker.{Worker}
 use Rattle.stm_c.specs.declared.worker_handle.WorkerHandle.{WorkerHandle}
+use Rattle.stm_desk.specs.declared.desk.Desk.{Desk}
+use Rattle.stm_c.specs.declared.desk_handle.DeskHandle.{DeskHandle}
+use Rattle.stm_desk.specs.declared.ended.Ended.{Ended}
+use Rattle.stm_c.specs.declared.ended_handle.EndedHandle.{EndedHandle}
 
 -- with this store in the place of the one that it holds
 abbrev pub store_in : StoreHandle → Store → StoreHandle
@@ -18,3 +22,11 @@ lender_in handle held = record { ptr = handle.ptr; alloc = handle.alloc; value =
 -- with this worker in the place of the one that it holds
 abbrev pub worker_in : WorkerHandle → Worker → WorkerHandle
 worker_in handle held = record { ptr = handle.ptr; alloc = handle.alloc; value = Some held }
+
+-- with this desk in the place of the one that it holds
+abbrev pub desk_in : DeskHandle → Desk → DeskHandle
+desk_in handle held = record { ptr = handle.ptr; alloc = handle.alloc; value = Some held }
+
+-- with this chapter in the place of the one that it holds
+abbrev pub ended_in : EndedHandle → Ended → EndedHandle
+ended_in handle held = record { ptr = handle.ptr; alloc = handle.alloc; value = Some held }

@@ -1,6 +1,12 @@
 pub mod Answers
 pub mod ByTicket
 pub mod Calls
+pub mod DeskAnswers
+pub mod DeskCalls
+pub mod DeskChapters
+pub mod DeskHandle
+pub mod EndedHandle
+pub mod EndedTexts
 pub mod Files
 pub mod Held
 pub mod Holding

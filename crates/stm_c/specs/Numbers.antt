@@ -1,6 +1,5 @@
 -- What the calls answer, in the numbers of the header.
 use Rattle.std.specs.Prelude.{ℕ, zero, suc, ℤ, pos, negsuc, ◌<◌, Result, Ok, Err}
-use Rattle.txn_programs.specs.declared.ast.Fault.{Fault}
 use Rattle.txn_programs.specs.declared.ast.Fault.TheVariants as fault
 use Rattle.txn_programs.specs.declared.ast.Outcome.{Outcome}
 use Rattle.txn_programs.specs.declared.ast.Outcome.TheVariants as outcome
@@ -28,6 +27,10 @@ not_there = negsuc 8
 abbrev pub no_worker : ℤ
 no_worker = negsuc 9
 
+-- -11: the worker has no ended attempt to bring; the host did not say yet of a chapter whether it was kept, or it is another
+abbrev pub not_ended : ℤ
+not_ended = negsuc 10
+
 -- -12: the handle is empty
 abbrev pub empty_handle : ℤ
 empty_handle = negsuc 11
@@ -39,6 +42,14 @@ full_handle = negsuc 12
 -- -14: there is no room for another task; or there would be more tasks than there may be
 abbrev pub no_room : ℤ
 no_room = negsuc 13
+
+-- -15: a task is ready or running
+abbrev pub work_left : ℤ
+work_left = negsuc 14
+
+-- -26: no task is ready; nothing is to be told, or to be evaluated
+abbrev pub not_ready : ℤ
+not_ready = negsuc 25
 
 -- -1 to -7: why a file is refused, or out of memory
 abbrev pub IsFileFault : ℤ → Type 0
@@ -83,9 +94,9 @@ number_of_verdict (Err e) = number_of_fault e
 abbrev pub number_of_refused : Refused → ℤ
 number_of_refused refused.Unknown = not_there
 number_of_refused refused.Gone = negsuc 17
-number_of_refused refused.NotReady = negsuc 25
+number_of_refused refused.NotReady = not_ready
 number_of_refused refused.NotRunning = pos 3
-number_of_refused refused.NotEnded = negsuc 10
+number_of_refused refused.NotEnded = not_ended
 number_of_refused refused.OtherProgram = negsuc 16
 number_of_refused refused.Stale = pos 2
 number_of_refused refused.NoRoom = no_room

@@ -13,7 +13,8 @@ use stm_store::{End, Entered, Job, Refused};
 use txn::Outcome;
 
 /// The ticket of the task that it is about, -1 where there is none; a code; what was returned or thrown, or the number
-/// of a condition; the chapter in which the task is; and the number of its entry there. Each is 0 where there is none.
+/// of a condition; the chapter in which the task is; the number of its entry there; and, of a call of a desk, the place of
+/// the entry in the history of all, from 0. Each is 0 where there is none.
 #[repr(C)]
 #[derive(Clone, Copy)]
 pub struct Answer {
@@ -22,10 +23,11 @@ pub struct Answer {
     pub value: i64,
     pub chapter: u64,
     pub entry: u64,
+    pub place: u64,
 }
 
 /// A code, and no task.
-fn bare(code: i32) -> Answer
+pub(crate) fn bare(code: i32) -> Answer
     ensures { result ≡ bare code }
 {
     Answer {
@@ -34,6 +36,7 @@ fn bare(code: i32) -> Answer
         value: 0,
         chapter: 0,
         entry: 0,
+        place: 0,
     }
 }
 
@@ -52,7 +55,7 @@ pub(crate) fn refusal(why: Refused) -> Answer
 }
 
 /// A task, and a code.
-fn about(ticket: i64, chapter: u64, code: i32) -> Answer
+pub(crate) fn about(ticket: i64, chapter: u64, code: i32) -> Answer
     ensures { result ≡ about ticket chapter code }
 {
     Answer {
@@ -61,6 +64,7 @@ fn about(ticket: i64, chapter: u64, code: i32) -> Answer
         value: 0,
         chapter,
         entry: 0,
+        place: 0,
     }
 }
 
@@ -74,6 +78,7 @@ fn by_entry(ticket: i64, chapter: u64, entered: Entered) -> Answer
         value: value_of_outcome(entered.outcome),
         chapter,
         entry: entered.number,
+        place: 0,
     }
 }
 
@@ -127,6 +132,7 @@ pub(crate) fn stands(ticket: i64, chapter: u64, how: Option<Standing>) -> Answer
             value: 0,
             chapter,
             entry: number,
+            place: 0,
         },
         Some(Standing::GivenUp) => about(ticket, chapter, GIVEN_UP),
         None => refusal(Refused::Gone),
@@ -162,6 +168,7 @@ pub(crate) fn observed(how: Result<Outcome, Refused>) -> Answer
             value: value_of_outcome(outcome),
             chapter: 0,
             entry: 0,
+            place: 0,
         },
         Err(why) => refusal(why),
     }

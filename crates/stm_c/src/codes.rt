@@ -56,6 +56,8 @@ pub(crate) const MORE: i32 = 9;
 pub(crate) const NO_END: i32 = 10;
 /// The journal has no entry of the task.
 pub(crate) const NO_ENTRY: i32 = 12;
+/// The chapter has no room for another task, and is to end first.
+pub(crate) const CHAPTER_FULL: i32 = 17;
 /// The task is ready.
 pub(crate) const READY: i32 = 13;
 /// The task is running.

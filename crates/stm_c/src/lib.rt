@@ -6,10 +6,19 @@
 #![tactic(auto)]
 
 mod answers;
+mod asking;
 mod calling;
 mod chapters;
 mod checking;
 mod codes;
+mod desk_answers;
+mod desk_chapters;
+mod desk_handle;
+mod desk_long;
+mod desk_looking;
+mod desk_opening;
+mod ended_handle;
+mod ended_texts;
 mod exploring;
 mod hosting;
 mod jobs;

@@ -41,7 +41,7 @@ pub extern "C" fn stm_get_counts(store: &mut StoreHandle, out: &mut Counted) -> 
     0
 }
 
-fn standing(counts: Counts) -> Counted
+pub(crate) fn standing(counts: Counts) -> Counted
     ensures { counts_in result ≡ counts }
 {
     Counted {
@@ -74,7 +74,7 @@ pub extern "C" fn stm_value(
     tell_value(held, name, value, version)
 }
 
-fn tell_value(store: &Store, name: &[u8], value: &mut i64, version: &mut u64) -> i32
+pub(crate) fn tell_value(store: &Store, name: &[u8], value: &mut i64, version: &mut u64) -> i32
     ensures done { result ≡ pos 0 → ValueIs store.now.book name.now value.new version.new }
     ensures unknown { result ≢ pos 0
         → (result ≡ UNKNOWN) × NoValue store.now.book name.now × (value.new ≡ value.old)
@@ -87,7 +87,7 @@ fn tell_value(store: &Store, name: &[u8], value: &mut i64, version: &mut u64) ->
 }
 
 /// What was found, where it was.
-fn tell(found: Option<(i64, u64)>, value: &mut i64, version: &mut u64) -> i32
+pub(crate) fn tell(found: Option<(i64, u64)>, value: &mut i64, version: &mut u64) -> i32
     ensures done { result ≡ pos 0 → found ≡ Some (value.new, version.new) }
     ensures unknown { result ≢ pos 0
         → (result ≡ UNKNOWN) × (found ≡ None) × (value.new ≡ value.old) × (version.new ≡ version.old) }
@@ -142,7 +142,7 @@ pub extern "C" fn stm_cells(
     copy_cells(held, table, from, values)
 }
 
-fn copy_cells(store: &Store, table: u32, from: u32, values: &mut [i64]) -> i64
+pub(crate) fn copy_cells(store: &Store, table: u32, from: u32, values: &mut [i64]) -> i64
     ensures { CopiesBy store.now.book table from values.old result values.new }
 {
     store.law();
@@ -176,7 +176,7 @@ pub extern "C" fn stm_file(store: &mut StoreHandle, room: &mut [u8], wanted: &mu
     file_of(held, room, wanted)
 }
 
-fn file_of(store: &Store, room: &mut [u8], wanted: &mut usize) -> i32
+pub(crate) fn file_of(store: &Store, room: &mut [u8], wanted: &mut usize) -> i32
     ensures done { result ≡ pos 0 → Holds (IsFileOf store.now.book) room.old room.new wanted.new }
     ensures too_short { result ≡ SHORT → TooShort (IsFileOf store.now.book) room.old room.new wanted.new }
     ensures long { result ≡ FILE_TOO_LONG → IsTooLong (file_text store.now.book.catalogue) }
@@ -220,7 +220,7 @@ pub extern "C" fn stm_report_now(
     report_of(held, room, wanted)
 }
 
-fn report_of(store: &Store, room: &mut [u8], wanted: &mut usize) -> i32
+pub(crate) fn report_of(store: &Store, room: &mut [u8], wanted: &mut usize) -> i32
     ensures done { result ≡ pos 0 → Holds (IsTextOf store.now.book) room.old room.new wanted.new }
     ensures too_short { result ≡ SHORT → TooShort (IsTextOf store.now.book) room.old room.new wanted.new }
     ensures left { result ≡ WORK_LEFT → ¬ (IsIdle store.now.book) }

@@ -6,7 +6,7 @@ ghost use Rattle.text_grammar.specs.Spelling.{first_fault};
 ghost use Rattle.text_words.specs.declared.fault.ReadFault.TheVariants as ReadFault;
 ghost use Rattle.stm_c.specs.Files.{IsRefused};
 ghost use Rattle.stm_c.specs.Held.{Asked, HoldsSome};
-ghost use Rattle.stm_c.specs.Long.{AreFlags, long_flag};
+ghost use Rattle.stm_c.specs.Long.{AreFlags, AreMarks, is_long, long_flag};
 ghost use Rattle.stm_c.specs.Made.{IsRead};
 ghost use Rattle.stm_c.specs.Named.{AreCells, AreParameters, IsTable, IsTransaction, IsVariable};
 ghost use Rattle.stm_c.specs.Rooms.{Holds, TooShort};
@@ -269,6 +269,26 @@ fn marked(alloc: Global, sizes: &[Size]) -> Result<Vec<u8>, AllocError>
     ensures { IfOk result (λ v. v.items ≡ map long_flag sizes.now) }
 {
     sizes.iter().map(|size| flag(*size)).collect(alloc)
+}
+
+/// Whether each transaction is long, in their order.
+pub(crate) fn long_ones(alloc: Global, catalogue: &Catalogue) -> Result<Vec<bool>, AllocError>
+    ensures { IfOk result (λ v. AreMarks catalogue.now v.items) }
+{
+    let sizes = sizes_of(alloc, catalogue, Weights::LEAST_TIME)?;
+    marks(alloc, &sizes)
+}
+
+fn marks(alloc: Global, sizes: &[Size]) -> Result<Vec<bool>, AllocError>
+    ensures { IfOk result (λ v. v.items ≡ map is_long sizes.now) }
+{
+    sizes.iter().map(|size| is_long(*size)).collect(alloc)
+}
+
+fn is_long(size: Size) -> bool
+    ensures { result ≡ is_long size }
+{
+    matches!(size, Size::Long)
 }
 
 fn flag(size: Size) -> u8

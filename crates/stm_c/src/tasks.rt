@@ -15,7 +15,7 @@ use crate::store_handle::StoreHandle;
 use stm_store::{Refused, Store, Ticket};
 
 /// The ticket of this number. `None` where it is negative, as no ticket is.
-fn ticket_of(number: i64) -> Option<Ticket>
+pub(crate) fn ticket_of(number: i64) -> Option<Ticket>
     ensures { IsTicket number result }
 {
     if number < 0 {

@@ -1,0 +1,131 @@
+-- `into_parts` tests the pointer: null owns nothing, and else two fields are moved, and what they own goes with them.
+use mathlib.Core.Path.{◌≡◌, refl, sym, subst}
+use mathlib.Core.List.{List, [], ◌∷◌, ◌++◌}
+use lib.Dec.{lit<}
+use seplogic.Ra.Ura.{Ura}
+use mir.Raw.{raw as bare}
+use mir.Val.{Val, vnull, vstruct, vcons, vnil, has_ty, of_list}
+use base.Logic.{SProp, ent, emp, id⊢, guard, guard_i}
+use base.Fml.{ftrue, fsep}
+use prog.Memory.{Memory}
+use prog.Routine.{Routine}
+use prog.Wp.{WpFn, Tables}
+use types.Logic.{Logic, sem}
+use contract.Monad.{Fun, fact_use}
+use contract.Running.{tables, tables_of}
+use sound.WpLaws.{WpFn-mono}
+use types.Kit.{Item, ‵, raw, ◌⊛◌, given, at_ret, ◌$◌, ◌∵◌, !, qed, by, move, drop, use0, use1, join, split, fsplit, fjoin, fpick, feq_l, learn, rewrite, suffices, done}
+use types.Part.{whole, sub, agg}
+use types.Match.{live}
+use types.Run.{stop, fld, lit, bin, no_more, and_then, of_opd, first, branches, exec, returns, enter}
+use types.ByLocal.{alloc_all, pass_all, free_all, look_at, get, get_in, sets, sets_last, env}
+use denote.Exit.{yes}
+use denote.Param.{layout}
+use denote.RattleType.{RattleType}
+use denote.RawPtr.{Ptr, block_ptr, null_ptr, ptr_val, Testable, tests_null}
+use denote.Signature.{type_at}
+use denote.Steps.{nothing}
+use denote.Triple.Spec.{triple_of}
+use denote.Triple.Table.{entered}
+use denote.Triple.Walked.{says, Stays, stay_dropped, walk_of, ends_at, Goes-dropped, walk_Meets}
+use Rattle.core.proofs.alloc.Calls.{α, token, handle_tells}
+use Rattle.core.proofs.alloc.Shapes.{after}
+use Rattle.core.proofs.cell.Inside.{Good}
+use Rattle.core.proofs.option.Made.{Some-of, none_of}
+use Rattle.std.specs.Prelude.{Option, None, Some}
+use Rattle.std_heap.proofs.GlobalToken.{dealloc_token-Testable}
+use Rattle.std_alloc.proofs.ResultValues.{and_tt}
+use Rattle.std_alloc.proofs.BoxSteps.Form.{D, B, τ, word, box_typed}
+use Rattle.std_alloc.proofs.BoxSteps.Steps.{box_out, box_in}
+use Rattle.stm_c.proofs.DeskHandle.{E, FromSeal as From}
+use Rattle.stm_c.specs.contracts.parts.Parts as Parts
+use Rattle.stm_c.specs.contracts.desk_handle.DeskHandle as Sealed
+use Rattle.stm_c.specs.contracts.desk_handle.DeskHandle.into_parts as F
+use Rattle.stm_c.specs.contracts.desk_handle.DeskHandle.into_parts.Key.{name as #self}
+use Rattle.stm_c.proofs.desk_handle.DeskHandle.into_parts.Statement as stated
+use Rattle.stm_c.proofs.desk_handle.DeskHandle.into_parts.Code as code
+
+abbrev stayed : Stays (F.ended).signature.params (F.ended).kept
+stayed = (stay_dropped From yes, tt)
+
+module _ {M : Type 1} {𝓤 : Ura M} (𝓛 : Logic 𝓤) (at_mem : Memory → SProp 𝓤) (run : Routine → Fun 𝓤) (𝓣 : Tables 𝓤 𝓛.H) where
+  open 𝓛 use {H}
+
+  -- where the handle is empty
+  walk_empty : (z : (walk_of 𝓛 F.ended stayed (F.clauses 𝓛 at_mem run)).Ghost) → z.0.3.0.value ≡ None
+      → ent 𝓤 ((walk_of 𝓛 F.ended stayed (F.clauses 𝓛 at_mem run)).pre z) (WpFn 𝓤 H 𝓣.C 𝓣.Λ code.function (z.0.4.0 ++ []) ((walk_of 𝓛 F.ended stayed (F.clauses 𝓛 at_mem run)).post z))
+  walk_empty z none =
+      let Post = (walk_of 𝓛 F.ended stayed (F.clauses 𝓛 at_mem run)).post z in
+      let d = z.0.3.0 in
+      let Lr : RattleType = Parts.the_row E.row E.al.row E.al.g in
+      let Out = type_at (F.signature).result tt in
+      qed 𝓛 ((‵ ftrue ⊛ ‵ (fsep ((Sealed.the_row).own_val d z.0.4.0) ftrue)) ∷ raw (emp 𝓤) ∷ []) ∵ split ! $ drop ! $ fsplit ! $
+      rewrite ! 0 (λ (v : Option E.row.Denot). ‵ ((Sealed.the_row).own_val (record { ptr = d.ptr; alloc = d.alloc; value = v }) z.0.4.0)) none refl $
+      fsplit ! $ fpick ! (λ vss. fsplit ! $ feq_l ! (λ ev. fsplit ! $ feq_l ! (λ ep. fsplit ! $ handle_tells E.al ! d.alloc vss.1.0 (λ hv ea fa. drop ! $ drop ! $ feq_l ! (λ en. drop ! $ drop ! $
+      let ws : z.0.4.0 ≡ vstruct (of_list (ptr_val null_ptr ∷ hv ∷ [])) ∷ [] =
+      subst (λ (p : Ptr). z.0.4.0 ≡ vstruct (of_list (ptr_val p ∷ hv ∷ [])) ∷ []) en
+      (subst (λ (us : List Val). z.0.4.0 ≡ vstruct (of_list (ptr_val d.ptr ∷ (us ++ []))) ∷ []) ea (subst (λ (ps : List Val). z.0.4.0 ≡ vstruct (of_list (ps ++ (vss.1.0 ++ []))) ∷ []) ep ev)) in
+      let w : Val = vstruct (vcons vnull (vcons hv vnil)) in
+      by ! (subst (λ (us : List Val). ent 𝓤 (emp 𝓤) (WpFn 𝓤 H 𝓣.C 𝓣.Λ code.function (us ++ []) Post)) (sym ws)
+      (qed 𝓛 [] ∵ enter ! 𝓣.C 𝓣.Λ code.function (w ∷ []) _ $ alloc_all ! (λ ls. pass_all ! refl ((and_tt (has_ty (α E.al) hv) fa.0, (record { fits = lit< tt }, (fa.1, tt))), tt) $
+      let Ev = env (code.function).locals ls in
+      sets ! (of_opd ! (get_in ! (fld ! refl (stop !)) (sub ! 0 refl (whole !)))) refl (tt, record { fits = lit< tt }) $ sets ! (of_opd ! (get_in ! (fld ! refl (stop !)) (sub ! 1 refl (whole !)))) refl fa $
+      sets ! (bin ! (get ! refl) (lit ! tt) tt) refl (tt, tt) $ first ! $ branches ! (get ! refl)
+      (λ _. sets_last ! (agg ! (and_then ! (lit ! tt) (no_more !))) refl (tt, (record { fits = lit< tt }, tt)) $ exec ! 𝓣.C 𝓣.Λ Ev (after 4 (code.function).body) (at_ret Ev Post) $
+      sets ! (of_opd ! (get ! refl)) refl (tt, (record { fits = lit< tt }, tt)) $ use0 𝓛 (‵ (Out.own_val None (live 0 vnil ∷ []))) (none_of 𝓛 Lr) $ returns ! (look_at ! 0 refl) $ free_all ! refl $
+      suffices ! _ (ends_at 𝓛 F.ended stayed (F.clauses 𝓛 at_mem run) z (live 0 vnil) None (tt, tt) (tt, tt)) $ says ! none $
+      nothing ! $ nothing ! $ fjoin ! $ join ! $ nothing ! $ join ! $ done !) (λ wrong. absurd wrong)))))))))
+
+  -- what may be freed may be compared with null
+  tested : (a : E.al.row.Denot) (p : Ptr) → ent 𝓤 (sem 𝓛 (token E.al a (bare (τ E)) p)) (guard 𝓤 (Testable p) (sem 𝓛 (token E.al a (bare (τ E)) p)))
+  tested a p = let T = sem 𝓛 (token E.al a (bare (τ E)) p) in fact_use 𝓤 (Testable p) (dealloc_token-Testable 𝓛 a (bare (τ E)) p) (guard_i 𝓤 (Testable p) T)
+
+  -- where it holds x
+  walk_full : (z : (walk_of 𝓛 F.ended stayed (F.clauses 𝓛 at_mem run)).Ghost) (x : E.row.Denot) → z.0.3.0.value ≡ Some x
+      → ent 𝓤 ((walk_of 𝓛 F.ended stayed (F.clauses 𝓛 at_mem run)).pre z) (WpFn 𝓤 H 𝓣.C 𝓣.Λ code.function (z.0.4.0 ++ []) ((walk_of 𝓛 F.ended stayed (F.clauses 𝓛 at_mem run)).post z))
+  walk_full z x some =
+      let Post = (walk_of 𝓛 F.ended stayed (F.clauses 𝓛 at_mem run)).post z in
+      let d = z.0.3.0 in
+      let v : D E = record { ptr = d.ptr; alloc = d.alloc; value = x } in
+      let Lr : RattleType = Parts.the_row E.row E.al.row E.al.g in
+      let Out = type_at (F.signature).result tt in
+      let made : Lr.Denot = record { ptr = v.ptr; alloc = v.alloc; value = x } in
+      qed 𝓛 ((‵ ftrue ⊛ ‵ (fsep ((Sealed.the_row).own_val d z.0.4.0) ftrue)) ∷ raw (emp 𝓤) ∷ []) ∵ split ! $ drop ! $ fsplit ! $
+      rewrite ! 0 (λ (o : Option E.row.Denot). ‵ ((Sealed.the_row).own_val (record { ptr = d.ptr; alloc = d.alloc; value = o }) z.0.4.0)) some refl $
+      use1 𝓛 (‵ ((B E).own_val v z.0.4.0)) (id⊢ 𝓤 _) $
+      box_out E ! v z.0.4.0 (λ b o hv e ws fa. move ! (1 ∷ []) $
+      use1 𝓛 (given (Testable (block_ptr b o)) (‵ (token E.al d.alloc (bare (τ E)) (block_ptr b o)))) (tested d.alloc (block_ptr b o)) $ learn ! (λ t. move ! (1 ∷ []) $
+      box_in E ! v b o v.value e refl $
+      use1 𝓛 (‵ (Lr.own_val made (word E hv b o ∷ []))) (id⊢ 𝓤 _) $ move ! (1 ∷ 2 ∷ []) $ drop ! $ drop ! $
+      let w = word E hv b o in
+      let full : Val = live 1 (vcons w vnil) in
+      let good : Good (layout Out) full = (and_tt _ (box_typed E hv b o fa).0, (record { fits = lit< tt }, ((box_typed E hv b o fa).1, tt))) in
+      let Γ : List (Item 𝓤) = ‵ (Lr.own_val made (w ∷ [])) ∷ [] in
+      by ! (subst (λ (us : List Val). ent 𝓤 (types.Kit.⋆ 𝓛 Γ) (WpFn 𝓤 H 𝓣.C 𝓣.Λ code.function (us ++ []) Post)) (sym ws)
+      (qed 𝓛 Γ ∵ enter ! 𝓣.C 𝓣.Λ code.function (w ∷ []) _ $ alloc_all ! (λ ls. pass_all ! refl (box_typed E hv b o fa, tt) $
+      let Ev = env (code.function).locals ls in
+      sets ! (of_opd ! (get_in ! (fld ! refl (stop !)) (sub ! 0 refl (whole !)))) refl (tt, tt) $ sets ! (of_opd ! (get_in ! (fld ! refl (stop !)) (sub ! 1 refl (whole !)))) refl fa $
+      sets ! (bin ! (get ! refl) (lit ! tt) (tests_null (block_ptr b o) t)) refl (tt, tt) $ first ! $ branches ! (get ! refl) (λ wrong. absurd wrong)
+      (λ _. sets ! (of_opd ! (get ! refl)) refl (tt, tt) $ sets ! (agg ! (and_then ! (get ! refl) (and_then ! (get ! refl) (no_more !)))) refl (box_typed E hv b o fa) $
+      sets_last ! (agg ! (and_then ! (lit ! tt) (and_then ! (get ! refl) (no_more !)))) refl good $ exec ! 𝓣.C 𝓣.Λ Ev (after 4 (code.function).body) (at_ret Ev Post) $
+      sets ! (of_opd ! (get ! refl)) refl good $ returns ! (look_at ! 0 refl) $ free_all ! refl $
+      use1 𝓛 (‵ (Out.own_val (Some made) (full ∷ []))) (Some-of 𝓛 Lr made w) $
+      suffices ! _ (ends_at 𝓛 F.ended stayed (F.clauses 𝓛 at_mem run) z full (Some made) (tt, tt) (tt, tt)) $ says ! some $
+      nothing ! $ nothing ! $ fjoin ! $ join ! $ nothing ! $ join ! $ done !))))))
+
+  walk : (z : (walk_of 𝓛 F.ended stayed (F.clauses 𝓛 at_mem run)).Ghost)
+      → ent 𝓤 ((walk_of 𝓛 F.ended stayed (F.clauses 𝓛 at_mem run)).pre z) (WpFn 𝓤 H 𝓣.C 𝓣.Λ code.function (z.0.4.0 ++ []) ((walk_of 𝓛 F.ended stayed (F.clauses 𝓛 at_mem run)).post z))
+  walk z = by_value z.0.3.0.value refl
+    where
+      by_value : (o : Option E.row.Denot) → z.0.3.0.value ≡ o
+          → ent 𝓤 ((walk_of 𝓛 F.ended stayed (F.clauses 𝓛 at_mem run)).pre z) (WpFn 𝓤 H 𝓣.C 𝓣.Λ code.function (z.0.4.0 ++ []) ((walk_of 𝓛 F.ended stayed (F.clauses 𝓛 at_mem run)).post z))
+      by_value None is = walk_empty z is
+      by_value (Some x) is = walk_full z x is
+
+pub into_parts_spec : {M : Type 1} → stated.statement M
+unfolding tables_of
+into_parts_spec 𝓤 𝓛 𝓜 𝓡 wired =
+    let 𝓣 : Tables 𝓤 𝓛.H = tables_of 𝓤 𝓛.H 𝓜 (tables 𝓤 𝓛.H 𝓜 𝓡 𝓡.env) in
+    entered 𝓤 𝓛.H (triple_of 𝓛 F.signature (F.spec 𝓛 𝓜.mem 𝓡.returns)) 𝓣.C 𝓣.Λ #self code.function (code.unfolded 𝓤 𝓛.H 𝓜 𝓡 wired)
+    (walk_Meets 𝓛 F.ended stayed (Goes-dropped 𝓛 0 From yes (λ κs x f. refl), tt) (F.clauses 𝓛 𝓜.mem 𝓡.returns) (WpFn 𝓤 𝓛.H 𝓣.C 𝓣.Λ code.function) (WpFn-mono 𝓤 𝓛.H 𝓛.laws 𝓣 code.function)
+    (walk 𝓛 𝓜.mem 𝓡.returns 𝓣))
