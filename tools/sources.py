@@ -19,7 +19,8 @@ VERSION_SOURCE, NUMBER = "crates/command_line/src/words.rt", r"\d+\.\d+\.\d+"
 
 # The parts of the library that are in C, and what they include of their own; the headers that a host includes, each with
 # its folder of bindings/; and what is made of all of it.
-PARTS, INCLUDED, SONAME = ("heap.c", "service.c", "words.c"), ("bell.h", "chapter_room.h", "lock.h", "sleep.h"), "libstm.so.0"
+PARTS, SONAME = ("heap.c", "service.c", "words.c"), "libstm.so.0"
+INCLUDED = ("bell.h", "calls.h", "chapter_room.h", "chapters.h", "inside.h", "lock.h", "looks.h", "sleep.h", "waiting.h", "workers.h")
 HEADERS = {"desk.h": "c", "service.h": "c", "stm.h": "c", "stm.hpp": "cpp"}
 # The headers of the exports of the crate.
 EXPORTED = ("stm.h", "desk.h")

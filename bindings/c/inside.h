@@ -1,0 +1,70 @@
+/* What a service is made of. It is a part of service.c. */
+#ifndef STM_INSIDE_H
+#define STM_INSIDE_H
+
+#include "calls.h"
+#include "desk.h"
+#include "workers.h"
+
+#include <sys/types.h>
+
+/* The memory of the library: heap.c, or the host's own. */
+struct block {
+    bool got;
+    void *at;
+};
+struct block rattle_alloc(size_t size, size_t align);
+void rattle_dealloc(void *old);
+
+/* A text, in a room that grows with it. */
+struct text {
+    uint8_t *at;
+    size_t room, length;
+};
+
+/* The chapters that end, one at a time. */
+struct chapters {
+    /* Whose thread tells the host, by an address of the thread's own; NULL: none does. */
+    const void *teller;
+    /* Whether the host did not keep what it was told last; and whether it was told once more since it was closed. */
+    bool is_refused, are_over;
+    /* The calls that wait until the host has said how it went. */
+    struct call *waiting;
+    /* What the host is told: only the teller has them. */
+    struct text file, report;
+};
+
+struct stm_service {
+    /* What is left to do when it is let go is to ring bells. */
+    struct lock lock;
+    /* How many threads are in a call for which they neither have the lock nor ask: it is changed without the lock. */
+    size_t inside;
+    stm_desk desk;
+    /* How many calls the desk has to tell something, and how many of them are long. */
+    size_t waiting, long_ones;
+    struct chapters chapters;
+    struct workers workers;
+    stm_program program;
+    stm_service_options options;
+    /* The process that has opened it. */
+    pid_t process;
+    /* The memory in which it lies. */
+    void *block;
+};
+
+static inline void enter(stm_service *s) { __atomic_add_fetch(&s->inside, 1, __ATOMIC_RELAXED); }
+
+/* The last that a thread has to do with the service. */
+static inline void leave(stm_service *s) { __atomic_sub_fetch(&s->inside, 1, __ATOMIC_RELEASE); }
+
+static void lock(stm_service *s) {
+    enter(s);
+    take_lock(&s->lock);
+}
+
+static void unlock_and_leave(stm_service *s) {
+    release(&s->lock);
+    leave(s);
+}
+
+#endif
