@@ -153,6 +153,10 @@ public:
     std::optional<std::uint64_t> ticket() const noexcept {
         return told_.ticket < 0 ? std::nullopt : std::optional<std::uint64_t>(static_cast<std::uint64_t>(told_.ticket));
     }
+    /// The place of its entry in the history of all that became of calls, from 0 on; nothing where it was not entered.
+    std::optional<std::uint64_t> place() const noexcept {
+        return told_.ticket < 0 ? std::nullopt : std::optional<std::uint64_t>(told_.place);
+    }
     /// `STM_DONE`; entered: `STM_THROWN`, `STM_OVERFLOW`, `STM_DIVIDE_BY_ZERO`, `STM_BROKEN`, `STM_OUTSIDE`; not
     /// entered: `STM_RETRIES`, `STM_TIMED_OUT`, `STM_CLOSED`, `STM_NO_ROOM`, `STM_MEMORY`, `STM_UNKNOWN`.
     std::int32_t code() const noexcept { return told_.code; }
@@ -233,9 +237,11 @@ inline answer<std::string> explore_to(std::string_view file, std::uint32_t state
     });
 }
 
-/// Is told file and report of each chapter that ends, under the lock, so it makes no call of the service, and all wait
-/// for it. Where it answers false or throws the chapter goes on, and each call that finds no room asks again: so it may
-/// be told a chapter twice. The last chapter does not end: ask for its file and report once the service is closed.
+/// Is told file and report of each chapter that ends, one after another, by a thread whose call found the chapter full.
+/// No lock is held: others go on in the next chapter, and wait for it only where that is full too. It may make calls of
+/// the service; one that would have to wait for it answers `STM_NO_ROOM`. Where it answers false or throws it is told the
+/// chapter again: when the next one is full, and whenever the service is closed. The last chapter does not end: ask for its
+/// file and report once the service is closed.
 using keeper = std::function<bool(std::string_view file, std::string_view report)>;
 
 /// How a service is opened.
@@ -301,8 +307,8 @@ public:
         return by_name(name, [&](std::uint32_t number) { return try_atomically(number, given); });
     }
 
-    /// As `atomically`, but `STM_TIMED_OUT` where it still waits when the time is up. That the thread waits for the
-    /// lock, as while a chapter ends, is not cut short.
+    /// As `atomically`, but `STM_TIMED_OUT` where it still waits when the time is up, for a commit or for the keeper in
+    /// another thread. A time of 0 is a try. That the thread calls the keeper itself is not cut short.
     template <class Rep, class Period>
     outcome atomically_within(std::chrono::duration<Rep, Period> time, std::uint32_t transaction,
                               arguments given = {}) noexcept {
@@ -369,8 +375,9 @@ public:
     answer<std::string> report() const { return text(stm_service_report); }
     answer<std::string> file() const { return text(stm_service_file); }
 
-    /// Every call that waits and every later one answers `STM_CLOSED`. What was entered stays. A service that goes out
-    /// of scope is closed too; but in a child of the process that has opened it nothing is closed or let go.
+    /// Every call that waits and every later one answers `STM_CLOSED`. What was entered stays. It waits until the keeper
+    /// has returned, and tells it once more what it did not keep. A service that goes out of scope is closed too; but in a
+    /// child of the process that has opened it nothing is closed or let go.
     void close() noexcept {
         if (held_) stm_service_close(held_->at);
     }

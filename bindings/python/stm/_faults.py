@@ -32,21 +32,23 @@ class NoEnd(Error, LookupError):
 
 class Fault(Error):
     """A call on a service that returned nothing. `entry` is the number of its entry in its chapter, `chapter` the number
-    of that, from 0 on, and `ticket` the number of its task, which no other call has. Where `entry` is 0 the call was not
-    entered: it had no effect, and never will; then `chapter` is 0 and `ticket` is -1."""
+    of that, from 0 on, `ticket` the number of its task, which no other call has, and `place` the place of the entry in
+    the history of all that became of calls, from 0 on. Where `entry` is 0 the call was not entered: it had no effect, and
+    never will; then `chapter` and `place` are 0 and `ticket` is -1."""
 
-    def __init__(self, *told: object, ticket: int = -1, chapter: int = 0, entry: int = 0) -> None:
+    def __init__(self, *told: object, ticket: int = -1, chapter: int = 0, entry: int = 0, place: int = 0) -> None:
         super().__init__(*told)
         self.ticket = ticket
         self.chapter = chapter
         self.entry = entry
+        self.place = place
 
 
 class Thrown(Fault):
     """The transaction threw a value."""
 
-    def __init__(self, value: int, *, ticket: int = -1, chapter: int = 0, entry: int = 0) -> None:
-        super().__init__(value, ticket=ticket, chapter=chapter, entry=entry)
+    def __init__(self, value: int, *, ticket: int = -1, chapter: int = 0, entry: int = 0, place: int = 0) -> None:
+        super().__init__(value, ticket=ticket, chapter=chapter, entry=entry, place=place)
         self.value = value
 
 
@@ -65,8 +67,8 @@ class Outside(Fault, IndexError):
 class Broken(Fault):
     """It would have broken the standing condition of this name."""
 
-    def __init__(self, condition: str, *, ticket: int = -1, chapter: int = 0, entry: int = 0) -> None:
-        super().__init__(condition, ticket=ticket, chapter=chapter, entry=entry)
+    def __init__(self, condition: str, *, ticket: int = -1, chapter: int = 0, entry: int = 0, place: int = 0) -> None:
+        super().__init__(condition, ticket=ticket, chapter=chapter, entry=entry, place=place)
         self.condition = condition
 
 
@@ -83,7 +85,8 @@ class Closed(Fault):
 
 
 class NoRoom(Fault):
-    """All room is taken by calls that wait; or `on_chapter` failed, and this is raised from its error."""
+    """All room is taken by calls that wait; or `on_chapter` failed and the next chapter is full too, and this is raised
+    from its error."""
 
 
 class OutOfMemory(Fault, MemoryError):

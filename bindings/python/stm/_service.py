@@ -91,18 +91,19 @@ class Service:
 
     A call gives its transaction a number of 64 signed bits for each of its parameters: `atomically("pay", [3, 5, 20])`;
     with more or fewer, `WrongArguments`. A call that waits lets other threads go on. Where the main thread waits for
-    others' commits, what a signal's handler raises, as Ctrl-C does, comes within a twentieth of a second, and the call is
+    others' commits, or for `on_chapter`, what a signal's handler raises, as Ctrl-C does, comes within a twentieth of a second, and the call is
     given up, if it has not been entered just then. A handler that raises nothing ends no wait. What a file says stays in
     memory until the process ends.
 
     `room`: how many tasks a chapter has room for beside those of the file; 0: as many as there can be. `checkpoint`: a
     journal of so many entries is followed by a checkpoint; 0: never. `observers`: how many workers there are, at most
     32; 0: 4; a thread takes one while it observes or evaluates a long transaction. `on_chapter` is called with file and
-    report of each chapter that ends, under the lock, so it makes no call of the service, and all wait for it; any call
-    of the service may be the one that it is called in. Where it raises the chapter goes on, and each call that finds no
-    room asks it again, and raises `NoRoom` from its error: so it may be told a chapter twice. Where an interrupt, a
-    `SystemExit` or a `MemoryError` stops it, that is raised by the call of the thread that it was called in, in place of
-    what the call answered. The last chapter does not end: ask for its file and report once the service is closed.
+    report of each chapter that ends, one after another, by a thread whose call found the chapter full, and with no lock
+    held: others go on in the next chapter, and wait for it only where that is full too. It may make calls; one that would
+    have to wait for it raises `NoRoom`. Where it raises, the chapter is told it again: when the next chapter is full, by
+    each call that finds it so, which raises `NoRoom` from its error; and by `close`, once each time. Where an interrupt, a
+    `SystemExit` or a `MemoryError` stops it, that is raised by the call that it was called in, in place of what the call
+    answered. The last chapter does not end: ask for its file and report once the service is closed.
     `Refused` where the file is refused, or there can't be so much room or so many observers.
 
     In a child that `os.fork` has made, a service of the parent is not called; to close it or to leave its `with` does
@@ -138,7 +139,8 @@ class Service:
     ) -> int:
         """Runs the transaction as one atomic step: what it returned; else a `Fault`. Where it retries the thread waits
         until a commit changed what it read, and it was entered; with a timeout, in seconds, at most so long, and then
-        `TimedOut`. The time that it waits for the lock, as while `on_chapter` is called, is not cut short."""
+        `TimedOut`, also where it waits for another thread's `on_chapter`. A timeout of 0 is a try. The time in which the
+        thread calls `on_chapter` itself is not cut short."""
         call = self._call(transaction, arguments)
         if not _asked.is_ready:
             _asked.be_ready()
@@ -199,7 +201,8 @@ class Service:
         return self._copied(library.stm_service_file)
 
     def close(self) -> None:
-        """Every call that waits and every later one raises `Closed`. What was entered stays."""
+        """Every call that waits and every later one raises `Closed`. What was entered stays. It waits until `on_chapter`
+        has returned, and calls it once more for a chapter that was not kept."""
         self._asks(library.stm_service_close)
 
     def __enter__(self) -> Service:
@@ -242,14 +245,14 @@ class Service:
         raise self._fault(answer) from (keeper.failed() if keeper and answer.code == _declared.NO_ROOM else None)
 
     def _asks(self, call: Callable[..., int], *given: object) -> int:
-        """What the library answers to a question. It may make calls of other threads meanwhile, and so end chapters."""
+        """What the library answers to a question; to close is one in which `on_chapter` may be called."""
         told = call(self._at, *given)
         if _asked.stops:
             _asked.go_on()
         return told
 
     def _fault(self, answer: Answer) -> Fault:
-        entered = {"ticket": answer.ticket, "chapter": answer.chapter, "entry": answer.entry}
+        entered = {"ticket": answer.ticket, "chapter": answer.chapter, "entry": answer.entry, "place": answer.place}
         if answer.code == _declared.THROWN:
             return Thrown(answer.value, **entered)
         if answer.code == _declared.BROKEN:

@@ -56,49 +56,90 @@ class Asked(unittest.TestCase):
         self.assertEqual([stm.check(*pair) for pair in pairs], [stm.Verdict.GOOD] * len(pairs))
         self.assertEqual(sum(report.count("\nentry ") for _, report in pairs), service.entered)
 
-    def interrupted(self):
-        """The main thread waits for the lock when it is interrupted, and then it is the one that ends a chapter."""
-        pairs, is_asked, goes_on = [], threading.Event(), threading.Event()
-
-        def keep(*pair):
-            if threading.current_thread() is not threading.main_thread():
-                is_asked.set()
-                goes_on.wait(LONG)
-            pairs.append(pair)
-
-        service = stm.Service(TEXT, room=1, on_chapter=keep)
-        service.atomically("inc")
-        other = in_thread(lambda: service.atomically("inc"))
-        is_asked.wait(LONG)
-        # Its long transaction gets in no line.
-        interrupts = in_thread(lambda: (interrupt(0.2), time.sleep(0.1), goes_on.set()))
+    def interrupted(self, room=20_000):
+        """The main thread is interrupted while the texts of a long chapter are made, and then it tells the keeper."""
+        pairs = []
+        service = stm.Service(TEXT, room=room, on_chapter=lambda *pair: pairs.append(pair))
+        for _ in range(room):
+            service.atomically("inc")
+        interrupts = in_thread(lambda: interrupt(0.003))
         try:
-            service.atomically("long")
+            service.atomically("inc")
+            # It came so late that it is still to come.
+            time.sleep(LONG)
         finally:
-            other.join(LONG)
             interrupts.join(LONG)
-            self.assertEqual((len(pairs), service.chapter), (1, 1))
-            self.assertEqual(service.atomically("inc"), 3)
+            self.seen.append(len(pairs))
+            self.assertEqual((service.chapter, service.value("n")), (1, room + 1))
             self.are_whole(service, pairs)
 
+    def until_it_comes_before_the_keeper(self, kind):
+        """It is raised whenever it comes, and no chapter is lost."""
+        self.seen = []
+        while 0 not in self.seen and len(self.seen) < 20:
+            self.assertRaises(kind, self.interrupted)
+        self.assertIn(0, self.seen)
+
     def test_an_interrupt_that_comes_before_the_keeper(self):
-        self.assertRaises(KeyboardInterrupt, self.interrupted)
+        self.until_it_comes_before_the_keeper(KeyboardInterrupt)
 
     def test_a_handler_that_raises_something_else(self):
         def handler(_number, _frame):
             raise Stop
 
         signal.signal(signal.SIGINT, handler)
-        self.assertRaises(Stop, self.interrupted)
+        self.until_it_comes_before_the_keeper(Stop)
+
+    def test_an_interrupt_ends_a_wait_for_the_keeper(self):
+        """Another thread is in it, and the next chapter is full too."""
+        pairs, is_asked, goes_on = [], threading.Event(), threading.Event()
+
+        def keep(*pair):
+            is_asked.set()
+            goes_on.wait(LONG)
+            pairs.append(pair)
+
+        service = stm.Service(TEXT, room=1, on_chapter=keep)
+        service.atomically("inc")
+        other = in_thread(lambda: service.atomically("inc"))
+        is_asked.wait(LONG)
+        self.assertEqual(service.atomically("inc"), 2)
+        for more in ({"timeout": LONG}, {}):
+            interrupts = in_thread(lambda: interrupt(0.1))
+            self.assertRaises(KeyboardInterrupt, service.atomically, "inc", **more)
+            interrupts.join(LONG)
+        self.assertRaises(stm.TimedOut, service.atomically, "long", timeout=0.01)
+        self.assertEqual((len(pairs), service.entered), (0, 2))
+        goes_on.set()
+        other.join(LONG)
+        self.assertEqual((service.atomically("inc"), len(pairs)), (4, service.chapter))
+        self.are_whole(service, pairs)
+
+    def test_a_keeper_may_call(self):
+        pairs, faults = [], []
+
+        def keep(*pair):
+            pairs.append(pair)
+            if len(pairs) == 1:
+                self.assertEqual(service.atomically("inc"), 2)
+                for call in (service.atomically, service.try_atomically):
+                    with self.assertRaises(stm.NoRoom) as raised:
+                        call("inc")
+                    faults.append(raised.exception.__cause__)
+                self.assertEqual((service.value("n"), service.chapter, service.observe("inc")), (2, 1, 3))
+
+        service = stm.Service(TEXT, room=1, on_chapter=keep)
+        self.assertEqual([service.atomically("inc"), service.atomically("inc")], [1, 3])
+        self.assertEqual((len(pairs), service.chapter, faults), (2, 2, [None, None]))
+        self.are_whole(service, pairs)
 
     def test_what_stops_the_keeper_is_raised(self):
         for kind in (KeyboardInterrupt, SystemExit, MemoryError):
-            pairs, stops = [], [kind("stopped"), None]
+            pairs, stops = [], [kind("stopped")]
 
             def keep(*pair):
-                stop = stops.pop(0)
-                if stop is not None:
-                    raise stop
+                if stops:
+                    raise stops.pop()
                 pairs.append(pair)
 
             service = stm.Service(TEXT, room=1, on_chapter=keep)
@@ -106,11 +147,11 @@ class Asked(unittest.TestCase):
             with self.assertRaises(kind) as raised:
                 service.atomically("inc")
             self.assertEqual(raised.exception.args, ("stopped",))
-            self.assertEqual((service.chapter, service.atomically("inc"), service.chapter), (0, 2, 1))
+            self.assertEqual((service.chapter, service.atomically("inc"), service.chapter), (1, 3, 2))
             self.are_whole(service, pairs)
 
     def test_each_question_raises_what_stops_the_keeper(self):
-        """A thread that asks makes the calls of others too, and so may end a chapter: here each question does."""
+        """Where the keeper is called in a question, as where the service is closed: here each question does."""
 
         def keep(*_pair):
             raise KeyboardInterrupt
@@ -267,7 +308,7 @@ class Ends(unittest.TestCase):
         box[0].atomically("inc")
         other = in_thread(lambda: box[0].atomically("inc"))
         is_asked.wait(LONG)
-        # The other thread has the lock.
+        # The other thread is in the keeper.
         child = os.fork()
         if child == 0:
             with box[0]:

@@ -57,11 +57,12 @@ def until_parked(service):
 
 
 def entered_at(fault):
-    """What a fault tells of its call: its ticket, the chapter in which it was entered, and the number of its entry."""
-    return fault.ticket, fault.chapter, fault.entry
+    """What a fault tells of its call: its ticket, the chapter in which it was entered, the number of its entry, and its
+    place in the history."""
+    return fault.ticket, fault.chapter, fault.entry, fault.place
 
 
-NOT_ENTERED = (-1, 0, 0)
+NOT_ENTERED = (-1, 0, 0, 0)
 
 
 class Calls(unittest.TestCase):
@@ -137,10 +138,10 @@ class Calls(unittest.TestCase):
             for _ in range(4):
                 service.atomically("inc")
             waiting.join(LONG)
-            self.assertEqual((told, service.chapter), ([(4, 0, 1, 3)], 1))
+            self.assertEqual((told, service.chapter), ([(4, 0, 1, 3, 4)], 1))
             with self.assertRaises(stm.Thrown) as raised:
                 service.atomically("bad")
-            self.assertEqual(entered_at(raised.exception), (5, 2, 1))
+            self.assertEqual(entered_at(raised.exception), (5, 2, 1, 5))
 
     def test_threads_share_it(self):
         pairs = []
@@ -216,23 +217,39 @@ class Calls(unittest.TestCase):
                 raise OSError("no disk")
 
         with stm.Service(TEXT, room=3, on_chapter=keep) as service:
-            for _ in range(3):
+            # The next chapter has room for three of them.
+            self.assertEqual([service.atomically("inc") for _ in range(6)], [1, 2, 3, 4, 5, 6])
+            self.assertEqual((len(tries), service.chapter), (1, 1))
+            with self.assertRaises(stm.NoRoom) as raised:
                 service.atomically("inc")
-            for _ in range(2):
-                with self.assertRaises(stm.NoRoom) as raised:
-                    service.atomically("inc")
-                at = entered_at(raised.exception)
-                self.assertEqual((str(raised.exception.__cause__), at), ("no disk", NOT_ENTERED))
-                self.assertEqual(service.chapter, 0)
-            self.assertEqual((service.atomically("inc"), service.chapter), (4, 1))
+            at = entered_at(raised.exception)
+            self.assertEqual((str(raised.exception.__cause__), at), ("no disk", NOT_ENTERED))
+            self.assertEqual((len(tries), service.chapter), (2, 1))
+            self.assertEqual((service.atomically("inc"), len(tries), service.chapter), (7, 4, 2))
+
+    def test_close_tells_once_more_what_was_not_kept(self):
+        tries = []
+
+        def keep(_file, report):
+            tries.append(report.count("\nentry "))
+            if len(tries) < 4:
+                raise OSError("no disk")
+
+        service = stm.Service(TEXT, room=1, on_chapter=keep)
+        self.assertEqual([service.atomically("inc"), service.atomically("inc")], [1, 2])
+        for times in (2, 3, 4, 4):
+            service.close()
+            self.assertEqual(len(tries), times)
+        self.assertEqual((tries, service.chapter), ([1, 1, 1, 1], 1))
 
     def test_an_interrupt_of_the_keeper_stays_one(self):
         def keep(_file, _report):
             raise KeyboardInterrupt
 
-        with stm.Service(TEXT, room=1, on_chapter=keep) as service:
-            service.atomically("inc")
-            self.assertRaises(KeyboardInterrupt, service.atomically, "inc")
+        service = stm.Service(TEXT, room=1, on_chapter=keep)
+        service.atomically("inc")
+        self.assertRaises(KeyboardInterrupt, service.atomically, "inc")
+        self.assertRaises(KeyboardInterrupt, service.close)
 
     def test_all_room_is_taken_by_calls_that_wait(self):
         with stm.Service(TEXT, room=1) as service:

@@ -59,11 +59,13 @@ impl ServiceOptions {
         ServiceOptions { observers, ..self }
     }
 
-    /// The closure is told the file and the report of each chapter that ends, before the next one begins: a pair that
-    /// `check` finds good. It is called under the lock, so it makes no call on the service, and all wait for it. Where
-    /// it fails or panics the chapter goes on, and each call that finds no room asks it again: so it may be told a
-    /// chapter twice. `Service::not_kept` says why it failed. The last chapter does not end: ask for its file and
-    /// report once the service is closed.
+    /// The closure is told the file and the report of each chapter that ends: a pair that `check` finds good. It is
+    /// called for one after another, by a thread whose call found the chapter full, and with no lock held: others go on
+    /// in the next chapter, and wait for the closure only where that is full too. It may make calls of the service; one
+    /// that would have to wait for the closure itself answers `NoRoom`. Where it fails or panics it is told the chapter
+    /// again: when the next one is full, by each call that finds it so, which answers `NoRoom` where it fails then, and
+    /// whenever the service is closed. `Service::not_kept` says why it failed. The last chapter does not end: ask for its
+    /// file and report once the service is closed.
     ///
     /// ```
     /// use std::sync::{Arc, Mutex};
@@ -127,8 +129,8 @@ impl Service {
     }
 
     /// As `atomically`; `TimedOut` after the time, also where a long transaction is evaluated until then. It had no
-    /// effect, and never will. The time is for how long the transaction waits: that the thread waits for the lock, as
-    /// while a chapter ends, is not cut short.
+    /// effect, and never will. The time is for how long the call waits, for a commit or for `on_chapter` in another
+    /// thread: that the thread calls the closure itself is not cut short. A time of 0 is a try.
     ///
     /// ```
     /// use std::time::Duration;
@@ -206,8 +208,9 @@ impl Service {
     /// let options = ServiceOptions::new().room(1).on_chapter(|_, _| Err("no disk"));
     /// let service = Service::open_with("(var x 5) (tx inc (set x (add x 1)) x)", options)?;
     /// assert_eq!((service.atomically(0, &[]), service.not_kept()), (Ok(6), None));
-    /// assert_eq!(service.atomically(0, &[]), Err(Fault::NoRoom));
+    /// assert_eq!(service.atomically(0, &[]), Ok(7));
     /// assert_eq!(service.not_kept(), Some(NotKept::Failed("\"no disk\"".to_string())));
+    /// assert_eq!(service.atomically(0, &[]), Err(Fault::NoRoom));
     /// # Ok::<(), stm::Error>(())
     /// ```
     pub fn not_kept(&self) -> Option<NotKept> {
@@ -225,8 +228,9 @@ impl Service {
         self.raw.file()
     }
 
-    /// Every call that waits and every later one answers `Closed`. What was entered stays. A service that is dropped
-    /// is closed too; but in a child of the process that has opened it nothing is closed or dropped.
+    /// Every call that waits and every later one answers `Closed`. What was entered stays. It waits until the closure of
+    /// `ServiceOptions::on_chapter` has returned, and calls it once more for a chapter that was not kept. A service that
+    /// is dropped is closed too; but in a child of the process that has opened it nothing is closed or dropped.
     ///
     /// ```
     /// let service = stm::Service::open("(tx wait (retry) 0)")?;

@@ -1,8 +1,8 @@
 //! Calls from any thread, their answers, and the chapters that they leave.
 
 use std::panic::panic_any;
-use std::sync::atomic::{AtomicBool, Ordering};
-use std::sync::{Arc, Mutex};
+use std::sync::atomic::{AtomicBool, AtomicU32, Ordering};
+use std::sync::{Arc, Mutex, Weak};
 use std::time::{Duration, Instant};
 use stm::{check, Error, Fault, NotKept, Service, ServiceOptions, Verdict};
 
@@ -207,41 +207,106 @@ impl Drop for Again {
 }
 
 #[test]
-fn a_chapter_that_is_not_kept_goes_on_while_there_is_room() {
+fn a_chapter_that_is_not_kept_is_told_again_when_the_next_one_is_full() {
     let options = ServiceOptions::new().room(3).on_chapter(|_, _| Err("no disk"));
     let service = Service::open_with(TEXT, options).unwrap();
-    assert_eq!(fill(&service, number(&service, "inc")), 3);
-    assert_eq!((service.chapter(), service.entered()), (0, 3));
+    assert_eq!(fill(&service, number(&service, "inc")), 6);
+    assert_eq!((service.chapter(), service.entered()), (1, 6));
     assert_eq!(service.not_kept(), Some(NotKept::Failed(format!("{:?}", "no disk"))));
     let quiet = std::panic::take_hook();
     std::panic::set_hook(Box::new(|_| {}));
     let panics = ServiceOptions::new().room(3).on_chapter(|_, _| -> Result<(), Error> { panic!("no disk") });
     let service = Service::open_with(TEXT, panics).unwrap();
-    assert_eq!(fill(&service, number(&service, "inc")), 3);
-    assert_eq!((service.chapter(), service.entered()), (0, 3));
+    assert_eq!(fill(&service, number(&service, "inc")), 6);
+    assert_eq!((service.chapter(), service.entered()), (1, 6));
     assert_eq!(service.not_kept(), Some(NotKept::Panicked("no disk".to_string())));
     let panics = ServiceOptions::new().room(3).on_chapter(|_, _| -> Result<(), Error> { panic_any(Again) });
     let service = Service::open_with(TEXT, panics).unwrap();
-    assert_eq!(fill(&service, number(&service, "inc")), 3);
-    std::panic::set_hook(quiet);
-    assert_eq!((service.chapter(), service.entered()), (0, 3));
+    assert_eq!(fill(&service, number(&service, "inc")), 6);
+    assert_eq!((service.chapter(), service.entered()), (1, 6));
     assert_eq!(service.not_kept(), Some(NotKept::Panicked(String::new())));
-    // Once a chapter is kept, it goes on.
-    let mut tries = 0;
-    let options = ServiceOptions::new().room(3).on_chapter(move |_, _| {
-        tries += 1;
-        if tries > 1 {
-            Ok(())
-        } else {
-            Err(())
+    drop(service);
+    std::panic::set_hook(quiet);
+}
+
+/// A service whose closure keeps nothing so many times, and how often it was called.
+fn failing(times: u32, room: usize) -> (Service, Arc<AtomicU32>) {
+    let tries = Arc::new(AtomicU32::new(0));
+    let own = tries.clone();
+    let keep = move |_: &str, _: &str| if own.fetch_add(1, Ordering::SeqCst) < times { Err(()) } else { Ok(()) };
+    (Service::open_with(TEXT, ServiceOptions::new().room(room).on_chapter(keep)).unwrap(), tries)
+}
+
+#[test]
+fn once_the_chapter_is_kept_it_goes_on() {
+    let (service, tries) = failing(2, 3);
+    let inc = number(&service, "inc");
+    assert_eq!((service.not_kept(), fill(&service, inc), tries.load(Ordering::SeqCst)), (None, 6, 2));
+    assert_eq!(service.not_kept(), Some(NotKept::Failed("()".to_string())));
+    assert_eq!((service.atomically(inc, &[]), service.not_kept()), (Ok(7), None));
+    assert_eq!((service.chapter(), service.entered(), tries.load(Ordering::SeqCst)), (2, 7, 4));
+}
+
+#[test]
+fn close_tells_once_more_what_was_not_kept() {
+    let (service, tries) = failing(2, 1);
+    let inc = number(&service, "inc");
+    assert_eq!((service.atomically(inc, &[]), service.atomically(inc, &[])), (Ok(1), Ok(2)));
+    for (times, kept) in [(2, false), (3, true), (3, true)] {
+        service.close();
+        assert_eq!((tries.load(Ordering::SeqCst), service.not_kept().is_none()), (times, kept));
+    }
+    drop(service);
+    assert_eq!(tries.load(Ordering::SeqCst), 3);
+}
+
+/// The closure is called with no lock held: so it may call. What would have to wait for it has no room.
+#[test]
+fn the_closure_may_call() {
+    let (shared, told) = (Arc::new(Mutex::new(Weak::<Service>::new())), Arc::new(Mutex::new(Vec::new())));
+    let (own, tell) = (shared.clone(), told.clone());
+    let options = ServiceOptions::new().room(1).on_chapter(move |_, _| {
+        let service = own.lock().unwrap().upgrade().unwrap();
+        let is_first = tell.lock().unwrap().is_empty();
+        if is_first {
+            let answers = [service.atomically(0, &[]), service.atomically(0, &[]), service.try_atomically(0, &[])];
+            tell.lock().unwrap().push((answers, service.chapter()));
         }
+        Ok::<(), ()>(())
+    });
+    let service = Arc::new(Service::open_with("(var n 0) (tx inc (set n (add n 1)) n)", options).unwrap());
+    *shared.lock().unwrap() = Arc::downgrade(&service);
+    assert_eq!((service.atomically(0, &[]), service.atomically(0, &[])), (Ok(1), Ok(3)));
+    assert_eq!(*told.lock().unwrap(), [([Ok(2), Err(Fault::NoRoom), Err(Fault::NoRoom)], 1)]);
+    assert_eq!((service.chapter(), service.entered()), (2, 3));
+}
+
+/// Others go on in the next chapter while the closure is called, and wait for it only when that is full too.
+#[test]
+fn others_go_on_while_the_closure_is_called() {
+    let (is_in, goes_on) = (Arc::new(AtomicBool::new(false)), Arc::new(AtomicBool::new(false)));
+    let (told, may) = (is_in.clone(), goes_on.clone());
+    let options = ServiceOptions::new().room(2).on_chapter(move |_, _| {
+        told.store(true, Ordering::SeqCst);
+        while !may.load(Ordering::SeqCst) {
+            std::thread::yield_now();
+        }
+        Ok::<(), ()>(())
     });
     let service = Service::open_with(TEXT, options).unwrap();
     let inc = number(&service, "inc");
-    assert_eq!((service.not_kept(), fill(&service, inc)), (None, 3));
-    assert_eq!(service.not_kept(), Some(NotKept::Failed("()".to_string())));
-    assert_eq!((service.atomically(inc, &[]), service.not_kept()), (Ok(4), None));
-    assert_eq!((service.chapter(), service.entered()), (1, 4));
+    assert_eq!((service.atomically(inc, &[]), service.atomically(inc, &[])), (Ok(1), Ok(2)));
+    std::thread::scope(|scope| {
+        let tells = scope.spawn(|| service.atomically(inc, &[]));
+        while !is_in.load(Ordering::SeqCst) {
+            std::thread::yield_now();
+        }
+        assert_eq!((service.atomically(inc, &[]), service.atomically(inc, &[])), (Ok(3), Ok(4)));
+        assert_eq!(service.atomically_within(inc, &[], MOMENT), Err(Fault::TimedOut));
+        assert_eq!((service.chapter(), service.entered()), (1, 4));
+        goes_on.store(true, Ordering::SeqCst);
+        assert_eq!(tells.join().unwrap(), Ok(5));
+    });
 }
 
 #[test]
