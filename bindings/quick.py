@@ -24,6 +24,8 @@ IN_C = [
     ("tests/lock.c", ["2000"], GOOD),
     ("tests/service.c", [], GOOD),
     ("tests/service_threads.c", ["300", "100"], GOOD),
+    ("tests/service_kept.c", [], GOOD),
+    ("tests/service_lives.c", ["50"], GOOD),
     ("tests/arguments.c", [], GOOD),
     ("tests/tables.c", [], GOOD),
     ("examples/tellers.c", [], languages.TELLERS),

@@ -21,16 +21,17 @@ static uint32_t number_of(stm_service *service, const char *name) {
 
 /* Whether it tells a task and a chapter exactly where it was entered. */
 static int is_whole(stm_answer answer) {
-    return answer.entry > 0 ? answer.ticket >= 0 : answer.ticket == -1 && answer.chapter == 0;
+    return answer.entry > 0 ? answer.ticket >= 0 : answer.ticket == -1 && answer.chapter == 0 && answer.place == 0;
 }
 
 static int is(stm_answer answer, int32_t code, int64_t value, uint64_t entry) {
     return answer.code == code && answer.value == value && answer.entry == entry && is_whole(answer);
 }
 
-/* Whether it returned, with this ticket, and was entered there. */
-static int is_at(stm_answer answer, int64_t ticket, uint64_t chapter, uint64_t entry) {
-    return answer.code == STM_DONE && answer.ticket == ticket && answer.chapter == chapter && answer.entry == entry;
+/* Whether it returned, with this ticket, and was entered there, and at this place of the history. */
+static int is_at(stm_answer answer, int64_t ticket, uint64_t chapter, uint64_t entry, uint64_t place) {
+    return answer.code == STM_DONE && answer.ticket == ticket && answer.chapter == chapter && answer.entry == entry &&
+           answer.place == place;
 }
 
 /* The runs of the file have had their turns: two increments and a throw; one waits. */
@@ -153,18 +154,21 @@ static int fails_first(void *own, const uint8_t *file, size_t file_length, const
     return failures-- > 0 ? 1 : 0;
 }
 
-/* Where the host does not keep a chapter it goes on, and nothing of it is lost. */
+/* What the host does not keep is told again, and nothing of it is lost. Meanwhile there is room for one chapter more, in
+ * which the run of the file that waits has a place too. */
 static void a_hook_that_fails(void) {
     struct judged judged = {{"\nentry "}, {0}, 0};
     stm_service_options options = {3, 0, 0, fails_first, &judged};
     stm_service *s = opens(ENDS, &options);
     for (int i = 0; i < 3; i++) wants(stm_atomically(s, 0, NULL, 0).code == STM_DONE);
-    failures = 2;
-    wants(is(stm_atomically(s, 0, NULL, 0), STM_NO_ROOM, 0, 0));
-    wants(is(stm_try_atomically(s, 0, NULL, 0), STM_NO_ROOM, 0, 0));
-    wants(stm_service_chapter(s) == 0 && stm_service_entered(s) == 6 && judged.chapters == 2);
-    wants(is(stm_atomically(s, 0, NULL, 0), STM_DONE, 13, 1) && judged.chapters == 3 && judged.lines[0] == 18);
-    wants(stm_service_chapter(s) == 1 && stm_service_entered(s) == 7);
+    failures = 3;
+    for (int i = 1; i <= 6; i++) wants(is_at(stm_atomically(s, 0, NULL, 0), 6 + i, 1, (uint64_t)i, (uint64_t)i + 5));
+    wants(judged.chapters == 1 && judged.lines[0] == 6 && stm_service_chapter(s) == 1);
+    wants(is(stm_atomically(s, 0, NULL, 0), STM_NO_ROOM, 0, 0) && judged.chapters == 2);
+    wants(is(stm_try_atomically(s, 0, NULL, 0), STM_NO_ROOM, 0, 0) && judged.chapters == 3);
+    wants(stm_service_chapter(s) == 1 && stm_service_entered(s) == 12 && judged.lines[0] == 18);
+    wants(is(stm_atomically(s, 0, NULL, 0), STM_DONE, 19, 1) && judged.chapters == 5 && judged.lines[0] == 30);
+    wants(stm_service_chapter(s) == 2 && stm_service_entered(s) == 13);
     stm_service_free(s);
 }
 
@@ -220,8 +224,8 @@ static void *waits_for_answer(void *told) {
     return NULL;
 }
 
-/* Of what was entered its ticket is told, its chapter, and the number of its entry there: also of one that waited, and
- * in the chapters after the first. What was not entered has none. */
+/* Of what was entered its ticket is told, its chapter, the number of its entry there, and its place in the history: also
+ * of one that waited, and in the chapters after the first. What was not entered has none. */
 static void where_each_was_entered(void) {
     enum { WAIT, GO, INC };
     stm_service_options options = {3, 0, 0, NULL, NULL};
@@ -230,27 +234,47 @@ static void where_each_was_entered(void) {
     pthread_t thread;
     wants(pthread_create(&thread, NULL, waits_for_answer, &told) == 0);
     until_there_wait(s, 1);
-    wants(is_at(stm_atomically(s, INC, NULL, 0), 1, 0, 1) && is_at(stm_try_atomically(s, INC, NULL, 0), 2, 0, 2));
-    wants(is_at(stm_atomically_within(s, INC, NULL, 0, UINT64_MAX), 3, 1, 1));
+    wants(is_at(stm_atomically(s, INC, NULL, 0), 1, 0, 1, 0) && is_at(stm_try_atomically(s, INC, NULL, 0), 2, 0, 2, 1));
+    wants(is_at(stm_atomically_within(s, INC, NULL, 0, UINT64_MAX), 3, 1, 1, 2));
     wants(is(stm_try_atomically(s, WAIT, NULL, 0), STM_RETRIES, 0, 0));
-    wants(is_at(stm_atomically(s, GO, NULL, 0), 4, 1, 2));
+    wants(is_at(stm_atomically(s, GO, NULL, 0), 4, 1, 2, 3));
     pthread_join(thread, NULL);
-    wants(is_at(told, 0, 1, 3) && told.value == 5);
-    wants(is_at(stm_try_atomically(s, WAIT, NULL, 0), 5, 2, 1));
-    wants(is(stm_service_observe(s, WAIT, NULL, 0), STM_DONE, 5, 0) && is_at(stm_atomically(s, INC, NULL, 0), 6, 2, 2));
+    wants(is_at(told, 0, 1, 3, 4) && told.value == 5);
+    wants(is_at(stm_try_atomically(s, WAIT, NULL, 0), 5, 2, 1, 5));
+    wants(is(stm_service_observe(s, WAIT, NULL, 0), STM_DONE, 5, 0) && is_at(stm_atomically(s, INC, NULL, 0), 6, 2, 2, 6));
     stm_service_free(s);
 }
 
-/* Calls wait whose tasks have numbers so far apart that they fall into one bucket of the table. */
-static void waits_in_one_bucket(void) {
-    enum { BUCKETS = 4096 };
+static void stops(void *own) {
+    stm_waiter *waiter = own;
+    waiter->stopped = 1;
+}
+
+/* What it waits for comes when it waits no longer: nothing is entered of it. That it was given up has a place. */
+static void too_late(void) {
+    enum { WAIT, GO };
+    stm_waiter waiter = {stops, &waiter, 0};
+    for (int is_stopped = 0; is_stopped < 2; is_stopped++) {
+        stm_service *s = opens(WAITS, NULL);
+        wants(stm_wait_by(is_stopped ? &waiter : NULL) == STM_DONE);
+        stm_answer late = is_stopped ? stm_atomically(s, WAIT, NULL, 0) : stm_atomically_within(s, WAIT, NULL, 0, 1000000);
+        wants(is(late, STM_TIMED_OUT, 0, 0) && stm_wait_by(NULL) == STM_DONE);
+        wants(is_at(stm_atomically(s, GO, NULL, 0), 1, 0, 1, 1) && stm_service_entered(s) == 1);
+        wants(is_at(stm_atomically(s, WAIT, NULL, 0), 2, 0, 2, 2) && stm_service_entered(s) == 2);
+        stm_service_free(s);
+    }
+}
+
+/* Calls wait whose tickets are far apart. */
+static void wait_far_apart(void) {
+    enum { BETWEEN = 4096 };
     stm_service *s = waited_for = opens(WAITS, NULL);
     int32_t done = STM_DONE;
     pthread_t threads[3];
     for (int i = 0; i < 3; i++) {
         wants(pthread_create(&threads[i], NULL, waits, &done) == 0);
         until_there_wait(s, i + 1);
-        for (int calls = 1; calls < BUCKETS; calls++) wants(stm_atomically(s, 2, NULL, 0).code == STM_DONE);
+        for (int calls = 1; calls < BETWEEN; calls++) wants(stm_atomically(s, 2, NULL, 0).code == STM_DONE);
     }
     wants(is(stm_atomically_within(s, 0, NULL, 0, 1000), STM_TIMED_OUT, 0, 0));
     wants(stm_atomically(s, 1, NULL, 0).code == STM_DONE);
@@ -297,7 +321,8 @@ int main(void) {
     a_hook_that_fails();
     all_wait();
     where_each_was_entered();
-    waits_in_one_bucket();
+    too_late();
+    wait_far_apart();
     a_thread_is_cancelled();
     with_checkpoints();
     printf("good\n");

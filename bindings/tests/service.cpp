@@ -78,6 +78,7 @@ static void each_way_to_end() {
     stm::outcome one = service.atomically("inc");
     wants(one && *one == 1 && one.value() == 1 && one.entry() == 1 && one.word() == "done" && !one.thrown());
     wants(one.ticket() == 0u && one.chapter() == 0 && !service.observe("inc").ticket());
+    wants(one.place() == 0u && !service.observe("inc").place());
     stm::outcome bad = service.atomically("bad");
     wants(!bad && bad.thrown() == -7 && !bad.broken() && bad.entry() == 2 && bad.ticket() == 1u);
     wants(service.atomically("big").code() == STM_OVERFLOW && service.atomically("cut").code() == STM_DIVIDE_BY_ZERO);
@@ -151,6 +152,7 @@ static void a_call_waits_across_chapters() {
     std::thread waits([&] {
         stm::outcome waited = service.atomically_within(1h, "wait");
         wants(waited.value() == 10 && waited.ticket() == 0u && waited.chapter() == 3 && waited.entry() == 2);
+        wants(waited.place() == 10u);
     });
     until_parked(service);
     for (std::uint64_t i = 0; i < 10; i++) {
@@ -185,9 +187,10 @@ static void a_chapter_that_is_not_kept() {
             return tries >= 3;
         };
         stm::service service = stm::service::open(TEXT, how).value();
-        for (int i = 0; i < 3; i++) wants(bool(service.atomically("inc")));
-        wants(service.atomically("inc").code() == STM_NO_ROOM && service.atomically("inc").code() == STM_NO_ROOM);
-        wants(service.chapter() == 0 && service.atomically("inc").value() == 4 && service.chapter() == 1);
+        for (int i = 1; i <= 6; i++) wants(service.atomically("inc").value() == i);
+        wants(tries == 1 && service.chapter() == 1);
+        wants(service.atomically("inc").code() == STM_NO_ROOM && tries == 2 && service.chapter() == 1);
+        wants(service.atomically("inc").value() == 7 && tries == 4 && service.chapter() == 2);
     }
 }
 

@@ -33,12 +33,13 @@ static void a_keeper_is_believed_by_its_word(void) {
     struct kept kept = {{keeps, &kept, NULL, 0, NULL, 0, 5}, 0, 2, 0};
     stm_service *s = opens(TEXT, &(stm_service_options){1, 0, 0, stm_ask_keeper, &kept.keeper});
     wants(stm_atomically(s, INC, NULL, 0).value == 1 && kept.asked == 0);
-    for (int i = 0; i < kept.refused; i++) wants(stm_atomically(s, INC, NULL, 0).code == STM_NO_ROOM);
-    wants(stm_service_chapter(s) == 0 && stm_service_entered(s) == 1);
-    for (int i = 2; i < 5; i++) wants(stm_atomically(s, INC, NULL, 0).value == i);
+    wants(stm_atomically(s, INC, NULL, 0).value == 2 && kept.asked == 1);
+    wants(stm_atomically(s, INC, NULL, 0).code == STM_NO_ROOM && kept.asked == 2);
+    wants(stm_service_chapter(s) == 1 && stm_service_entered(s) == 2);
+    for (int i = 3; i < 6; i++) wants(stm_atomically(s, INC, NULL, 0).value == i && kept.asked == i + 1);
     struct judged judged = {{"\nentry "}, {0}, 0};
     judges_the_last(s, &judged);
-    wants(kept.asked == 5 && kept.good == 5 && stm_service_chapter(s) == 3 && judged.lines[0] == 1);
+    wants(kept.asked == 6 && kept.good == 6 && stm_service_chapter(s) == 4 && judged.lines[0] == 1);
     stm_service_free(s);
 }
 

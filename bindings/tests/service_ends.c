@@ -1,6 +1,6 @@
-/* The end of a service: it waits for each thread that is in a call, also for one that only looks up a name, or that
- * asks while another has the lock; and in a child of its process nothing is closed, nothing is let go, and nothing
- * hangs. Prints `good`. */
+/* The end of a service: it waits for each thread that is in a call, also for one that only looks up a name, that asks
+ * while another has the lock, or that tells the host a chapter or waits until another has; and in a child of its process
+ * nothing is closed, nothing is let go, and nothing hangs. Prints `good`. */
 #include "judging.h"
 
 #include <fcntl.h>
@@ -30,13 +30,27 @@ static void until(bool *flag) {
 
 static void begins(void) { is_in = goes_on = is_free = false; }
 
-/* ---- A thread that looks up a name, which it cannot read yet ---- */
+static void rests(void) {
+    for (int i = 0; i < MILLISECONDS; i++) sleep_shortly();
+}
+
+/* ---- A thread that looks for what it cannot read yet ---- */
 
 static void reads(int number) {
     (void)number;
     set(&is_in);
     until(&goes_on);
     mprotect(page, PAGE_ROOM, PROT_READ);
+}
+
+/* A page with this text, which is not to be read yet. */
+static void begins_with(const char *text) {
+    begins();
+    int zero = open("/dev/zero", O_RDWR);
+    page = mmap(NULL, PAGE_ROOM, PROT_READ | PROT_WRITE, MAP_PRIVATE, zero, 0);
+    wants(page != MAP_FAILED && close(zero) == 0);
+    strcpy((char *)page, text);
+    wants(mprotect(page, PAGE_ROOM, PROT_NONE) == 0);
 }
 
 typedef int64_t looks_up(const stm_service *, const uint8_t *, size_t);
@@ -60,18 +74,13 @@ static void *lets_go(void *service) {
 }
 
 static void a_look_is_a_call(looks_up *by) {
-    begins();
-    int zero = open("/dev/zero", O_RDWR);
-    page = mmap(NULL, PAGE_ROOM, PROT_READ | PROT_WRITE, MAP_PRIVATE, zero, 0);
-    wants(page != MAP_FAILED && close(zero) == 0);
-    memcpy(page, "inc", 3);
-    wants(mprotect(page, PAGE_ROOM, PROT_NONE) == 0);
+    begins_with("inc");
     struct look look = {opens(TEXT, NULL), by, -1};
     pthread_t looking, letting;
     wants(pthread_create(&looking, NULL, looks, &look) == 0);
     until(&is_in);
     wants(pthread_create(&letting, NULL, lets_go, look.service) == 0);
-    for (int i = 0; i < MILLISECONDS; i++) sleep_shortly();
+    rests();
     wants(!is_set(&is_free));
     set(&goes_on);
     pthread_join(looking, NULL);
@@ -82,11 +91,12 @@ static void a_look_is_a_call(looks_up *by) {
 
 /* ---- Threads that ask ---- */
 
-static int waits_in_it(void *own, const uint8_t *file, size_t file_length, const uint8_t *report, size_t report_length) {
-    (void)own, (void)file, (void)file_length, (void)report, (void)report_length;
-    set(&is_in);
-    until(&goes_on);
-    return 0;
+/* Has the lock while it cannot read the name. */
+static void *has_the_lock(void *service) {
+    int64_t value = 0;
+    uint64_t version = 0;
+    wants(stm_service_value(service, page, 1, &value, &version) == STM_DONE && value == 1);
+    return NULL;
 }
 
 static void *calls(void *service) {
@@ -94,6 +104,7 @@ static void *calls(void *service) {
     return NULL;
 }
 
+/* It may be closed meanwhile. */
 static void *asks(void *service) {
     int32_t code = stm_atomically(service, 0, NULL, 0).code;
     wants(code == STM_DONE || code == STM_CLOSED);
@@ -105,26 +116,50 @@ static void *asks_for_the_lock(void *service) {
     return NULL;
 }
 
-/* While one thread has the lock, some ask: for as many as have a seat or more, it waits. */
-static void askers_are_in_a_call(int count) {
-    begins();
-    stm_service *s = opens(ONE, &(stm_service_options){1, 0, 0, waits_in_it, NULL});
-    calls(s);
-    pthread_t first, asking[MOST_ASKING], letting;
-    wants(pthread_create(&first, NULL, calls, s) == 0);
+/* While this thread is in a call, so many ask; and it is let go: not before all have their answers. */
+static void let_go_while(stm_service *s, pthread_t first, int count) {
+    pthread_t asking[MOST_ASKING], letting;
     until(&is_in);
     for (int i = 0; i < count; i++) {
         wants(pthread_create(&asking[i], NULL, i % 4 ? asks : asks_for_the_lock, s) == 0);
     }
-    for (int i = 0; i < MILLISECONDS; i++) sleep_shortly();
+    rests();
     wants(pthread_create(&letting, NULL, lets_go, s) == 0);
-    for (int i = 0; i < MILLISECONDS; i++) sleep_shortly();
+    rests();
     wants(!is_set(&is_free));
     set(&goes_on);
     pthread_join(first, NULL);
     for (int i = 0; i < count; i++) pthread_join(asking[i], NULL);
     pthread_join(letting, NULL);
     wants(is_free);
+}
+
+/* For as many as have a seat or more it waits. */
+static void askers_are_in_a_call(int count) {
+    begins_with("n");
+    stm_service *s = opens(ONE, NULL);
+    calls(s);
+    pthread_t first;
+    wants(pthread_create(&first, NULL, has_the_lock, s) == 0);
+    let_go_while(s, first, count);
+    munmap(page, PAGE_ROOM);
+}
+
+static int waits_in_it(void *own, const uint8_t *file, size_t file_length, const uint8_t *report, size_t report_length) {
+    (void)own, (void)file, (void)file_length, (void)report, (void)report_length;
+    set(&is_in);
+    until(&goes_on);
+    return 0;
+}
+
+/* The next chapter has room for one of them; the others wait for the host. */
+static void those_who_wait_for_the_host_are_in_a_call(int count) {
+    begins();
+    stm_service *s = opens(ONE, &(stm_service_options){1, 0, 0, waits_in_it, NULL});
+    calls(s);
+    pthread_t first;
+    wants(pthread_create(&first, NULL, asks, s) == 0);
+    let_go_while(s, first, count);
 }
 
 /* ---- A child ---- */
@@ -157,6 +192,22 @@ static void child_of(stm_service *s) {
 }
 
 /* Another thread of the parent has the lock. */
+static void a_child_while_another_has_the_lock(void) {
+    begins_with("n");
+    stm_service *s = opens(ONE, NULL);
+    calls(s);
+    pthread_t other;
+    wants(pthread_create(&other, NULL, has_the_lock, s) == 0);
+    until(&is_in);
+    child_of(s);
+    set(&goes_on);
+    pthread_join(other, NULL);
+    wants(stm_service_entered(s) == 1);
+    stm_service_free(s);
+    munmap(page, PAGE_ROOM);
+}
+
+/* Another thread of the parent tells the host a chapter. */
 static void a_child_while_a_chapter_ends(void) {
     begins();
     stm_service *s = opens(ONE, &(stm_service_options){1, 0, 0, waits_in_it, NULL});
@@ -197,9 +248,12 @@ int main(void) {
     wants(sigaction(SIGSEGV, &fault, &before) == 0);
     a_look_is_a_call(stm_service_transaction);
     a_look_is_a_call(stm_service_table);
-    wants(sigaction(SIGSEGV, &before, NULL) == 0);
     askers_are_in_a_call(3);
     askers_are_in_a_call(MOST_ASKING);
+    a_child_while_another_has_the_lock();
+    wants(sigaction(SIGSEGV, &before, NULL) == 0);
+    those_who_wait_for_the_host_are_in_a_call(3);
+    those_who_wait_for_the_host_are_in_a_call(MOST_ASKING);
     a_child_while_a_chapter_ends();
     a_child_while_a_call_waits();
     puts("good");

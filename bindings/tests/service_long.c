@@ -126,7 +126,7 @@ static void *hurries(void *own) {
     for (long i = 0; i < calls; i++) {
         w->seed = w->seed * 1103515245 + 12345;
         uint32_t transaction = w->transaction + (w->seed >> 16) % 2 * 2;
-        stm_answer answer = stm_atomically_within(service, transaction, NULL, 0, w->seed % 300000);
+        stm_answer answer = stm_atomically_within(service, transaction, NULL, 0, 1 + w->seed % 300000);
         wants(answer.code == STM_DONE || is(answer, STM_TIMED_OUT, 0, 0));
         if (answer.code == STM_DONE) w->outcomes++;
         else w->late++;
@@ -134,7 +134,8 @@ static void *hurries(void *own) {
     return NULL;
 }
 
-/* Each call whose time was up is given up, and each other one was entered: the journals have as many of both. */
+/* Each call whose time was up is given up, and each other one was entered: the journals have as many of both. Who waits for
+ * the host has no task yet. */
 static void late_while_it_runs(int threads, size_t room) {
     struct judged judged = {{"put returned ", "get returned ", "\nmemory "}, {0}, 0};
     stm_service_options options = {room, 0, 0, judges, &judged};
@@ -145,7 +146,8 @@ static void late_while_it_runs(int threads, size_t room) {
     with_threads(workers, threads, hurries);
     for (int i = 0; i < threads; i++) outcomes[workers[i].transaction] += workers[i].outcomes, late += workers[i].late;
     judges_the_last(service, &judged);
-    wants(judged.lines[0] == outcomes[PUT] && judged.lines[1] == outcomes[GET] && judged.lines[2] == late);
+    wants(judged.lines[0] == outcomes[PUT] && judged.lines[1] == outcomes[GET]);
+    wants(judged.lines[2] == late || (room > 0 && judged.lines[2] < late));
     wants(value_of(service, "made") == outcomes[PUT] && value_of(service, "taken") == outcomes[GET]);
     stm_service_free(service);
 }
@@ -248,9 +250,10 @@ static void each_end(void) {
     wants(is(stm_atomically(s, LONG_GET, NULL, 0), STM_DONE, 1, 2));
     wants(is(stm_atomically(s, LONG_PUT, &argument, 1), STM_UNKNOWN, 0, 0));
     wants(is(stm_try_atomically(s, LONG_GET, &argument, 1), STM_UNKNOWN, 0, 0));
-    /* It is given up and leaves its room when the chapter ends, again and again. */
-    for (int i = 0; i < 10; i++) wants(is(stm_try_atomically(s, LONG_GET, NULL, 0), STM_RETRIES, 0, 0));
-    wants(stm_service_entered(s) == 2 && stm_service_chapter(s) > 2);
+    /* What only tries takes no room, and a time of 0 is a try. */
+    for (int i = 0; i < 70000; i++) wants(is(stm_try_atomically(s, LONG_GET, NULL, 0), STM_RETRIES, 0, 0));
+    for (int i = 0; i < 10; i++) wants(is(stm_atomically_within(s, LONG_GET, NULL, 0, 0), STM_TIMED_OUT, 0, 0));
+    wants(stm_service_entered(s) == 2 && stm_service_chapter(s) == 0);
     wants(is(stm_atomically_within(s, SLOW_GET, NULL, 0, 0), STM_TIMED_OUT, 0, 0));
     wants(is(stm_atomically_within(s, SLOW_GET, NULL, 0, 1000), STM_TIMED_OUT, 0, 0));
     wants(is(stm_atomically_within(s, SLOW_GET, NULL, 0, 20000000), STM_TIMED_OUT, 0, 0));
@@ -273,7 +276,7 @@ static void where_each_was_entered(void) {
     service = opens(QUEUE, &options);
     wants(pthread_create(&thread, NULL, gets_one, &told) == 0);
     until_there_wait(1);
-    wants(is(stm_try_atomically(service, LONG_GET, NULL, 0), STM_RETRIES, 0, 0));
+    wants(is(stm_atomically_within(service, GET, NULL, 0, 1000), STM_TIMED_OUT, 0, 0));
     wants(is_at(stm_atomically(service, LONG_PUT, NULL, 0), 2, 1, 1));
     pthread_join(thread, NULL);
     wants(is_at(told, 0, 1, 2) && told.value == 1);

@@ -66,7 +66,7 @@ static void *hurries(void *own) {
     struct worker *w = own;
     for (long i = 0; i < calls; i++) {
         w->seed = w->seed * 1103515245 + 12345;
-        stm_answer answer = stm_atomically_within(service, w->transaction, NULL, 0, w->seed % 60000);
+        stm_answer answer = stm_atomically_within(service, w->transaction, NULL, 0, 1 + w->seed % 60000);
         wants(answer.code == STM_DONE || (answer.code == STM_TIMED_OUT && answer.value == 0 && answer.entry == 0));
         if (answer.code == STM_DONE) w->outcomes++;
         else w->late++;
@@ -74,7 +74,8 @@ static void *hurries(void *own) {
     return NULL;
 }
 
-/* Each call whose time was up was given up, and each other one was entered: the journals have as many of both. */
+/* Each call whose time was up was given up, and each other one was entered: the journals have as many of both. Who waits for
+ * the host has no task yet. */
 static void late_while_woken(int threads, size_t room) {
     struct judged judged = {{" put returned ", " get returned ", "\nmemory "}, {0}, 0};
     stm_service_options options = {room, 0, 0, judges, &judged};
@@ -85,7 +86,8 @@ static void late_while_woken(int threads, size_t room) {
     with_threads(workers, threads, hurries);
     for (int i = 0; i < threads; i++) outcomes[workers[i].transaction] += workers[i].outcomes, late += workers[i].late;
     judges_the_last(service, &judged);
-    wants(judged.lines[0] == outcomes[PUT] && judged.lines[1] == outcomes[GET] && judged.lines[2] == late);
+    wants(judged.lines[0] == outcomes[PUT] && judged.lines[1] == outcomes[GET]);
+    wants(judged.lines[2] == late || (room > 0 && judged.lines[2] < late));
     wants(value_of(service, "made") == outcomes[PUT] && value_of(service, "taken") == outcomes[GET]);
     stm_service_free(service);
 }
