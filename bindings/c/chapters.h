@@ -62,14 +62,11 @@ static void wake_all(stm_service *s, int32_t code) {
 
 /* Tells the host a chapter that ended, and the desk what it says. */
 static int32_t tell(stm_service *s, stm_ended *ended) {
-    int32_t code = STM_DONE;
-    if (s->options.ended) {
-        s->chapters.teller = &my_seat;
-        release(&s->lock);
-        code = tell_host(s, ended);
-        take_lock(&s->lock);
-        s->chapters.teller = NULL;
-    }
+    s->chapters.teller = &my_seat;
+    release(&s->lock);
+    int32_t code = tell_host(s, ended);
+    take_lock(&s->lock);
+    s->chapters.teller = NULL;
     if (code == STM_DONE) stm_desk_kept(&s->desk, ended);
     else stm_desk_not_kept(&s->desk, ended);
     s->chapters.is_refused = code != STM_DONE;
@@ -94,8 +91,10 @@ static int32_t end_chapter(stm_service *s, struct call *call, const struct times
     stm_ended ended = {0};
     if (is_teller(s) || (*is_refused && s->chapters.is_refused)) return STM_NO_ROOM;
     uint64_t chapter = stm_desk_chapter(&s->desk);
-    int32_t code = stm_desk_end_chapter(&s->desk, &ended);
+    bool is_told = s->options.ended != NULL;
+    int32_t code = is_told ? stm_desk_end_chapter(&s->desk, &ended) : stm_desk_begin_chapter(&s->desk);
     hand_on(s);
+    if (!is_told) return code;
     /* It may have ended all the same, and counts as not kept then. */
     if (code == STM_MEMORY && stm_desk_chapter(&s->desk) != chapter) s->chapters.is_refused = true;
     if (code == STM_DONE) code = tell(s, &ended);

@@ -78,6 +78,10 @@ int32_t stm_desk_close(stm_desk *desk);
  * chapter that was not kept is given again, and no other one ends. */
 int32_t stm_desk_end_chapter(stm_desk *desk, stm_ended *out);
 
+/* The present chapter ends, of which nobody keeps anything, and the next one begins, as above: it takes no memory, and no
+ * text is made. STM_NOT_ENDED: a chapter was not kept, or that was not said yet. */
+int32_t stm_desk_begin_chapter(stm_desk *desk);
+
 /* The chapter was kept, or it was not: STM_DONE, and its handle is empty. STM_NOT_ENDED: it is not the one that
  * `stm_desk_end_chapter` gave last of this desk, and nothing changed. */
 int32_t stm_desk_kept(stm_desk *desk, stm_ended *ended);

@@ -8,11 +8,11 @@ use Rattle.stm_desk.specs.declared.ended.Last.{Last}
 use Rattle.stm_desk.specs.declared.ended.Last.TheVariants as last
 use Rattle.stm_desk.specs.declared.work.Work.{Work}
 use Rattle.stm_desk.specs.Asking.{IsStill}
-use Rattle.stm_desk.specs.Ending.{EndsChapter, TakesBack}
+use Rattle.stm_desk.specs.Ending.{EndsChapter, HasBegun, TakesBack}
 use Rattle.stm_desk.specs.History.{Begins}
 use Rattle.stm_desk.specs.Waiting.{waiting_at}
 use Rattle.stm_c.specs.Long.{AreMarks}
-use Rattle.stm_c.specs.Numbers.{empty_handle, full_handle, not_ended, number_of_refused, out_of_memory, work_left}
+use Rattle.stm_c.specs.Numbers.{empty_handle, full_handle, not_ended, number_of_done, number_of_refused, out_of_memory, work_left}
 
 -- the desk of the store: open, with nobody who waits and nothing to be told; what is long is found from the program
 pub record IsDeskOf (store : Store) (desk : Desk) : Type 0 where
@@ -56,6 +56,16 @@ pub record EndsInto (old : Desk) (answer : ℤ) (handle : Option Ended) (new : D
 pub record EndsFor (old : Desk) (out : Option Ended) (answer : ℤ) (handle : Option Ended) (new : Desk) : Type 0 where
   pub full : (out ≡ None → ⊥) → (answer ≡ full_handle) × (handle ≡ out) × (new ≡ old)
   pub ends : out ≡ None → EndsInto old answer handle new
+
+-- `stm_desk_begin_chapter`
+pub record BeginsChapter (old : Desk) (answer : ℤ) (new : Desk) : Type 0 where
+  pub how : Result (Unit {0}) Refused
+  pub begun : HasBegun old.work how new.work
+  pub answered : answer ≡ number_of_done how
+  pub history : Begins old.work.history.items new.work.history.items
+  pub first : new.work.first.value ≡ old.work.first.value
+  pub closed : new.work.closed ≡ old.work.closed
+  pub last : new.work.last ≡ old.work.last
 
 -- 0, and the handle is empty; else -11, and it holds the chapter still
 abbrev pub IsTakenBack : Result (Unit {0}) Ended → ℤ → Option Ended → Type 0

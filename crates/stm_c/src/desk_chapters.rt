@@ -2,10 +2,10 @@
 
 ghost use Rattle.std.specs.Prelude.{◌≡◌, None, Ok, Some, IfErr, IfOk, OnErr};
 ghost use Rattle.stm_desk.specs.declared.ended.Last.TheVariants as Last;
-ghost use Rattle.stm_c.specs.DeskChapters.{EndsFor, GivesBack, IsHandedOver, IsNotGiven};
+ghost use Rattle.stm_c.specs.DeskChapters.{BeginsChapter, EndsFor, GivesBack, IsHandedOver, IsNotGiven};
 ghost use Rattle.stm_c.specs.Held.{On};
 
-use crate::codes::{EMPTY, FULL, MEMORY, NOT_ENDED, code_of};
+use crate::codes::{EMPTY, FULL, MEMORY, NOT_ENDED, code_of, done};
 use crate::desk_handle::DeskHandle;
 use crate::ended_handle::EndedHandle;
 use std::alloc::Global;
@@ -58,6 +58,24 @@ fn hand_over(alloc: Global, desk: &mut Desk, ended: Ended, out: &mut EndedHandle
             Err(_) => unreachable!(),
         },
     }
+}
+
+/// The present chapter ends, of which nobody keeps anything, and the next one begins: 0. -11: the host has the chapter
+/// before, or did not keep it; -12: the handle is empty.
+#[unsafe(no_mangle)]
+pub extern "C" fn stm_desk_begin_chapter(desk: &mut DeskHandle) -> i32
+    ensures { On desk.old.value desk.new.value EMPTY result BeginsChapter }
+{
+    let Some(held) = desk.get_mut() else {
+        return EMPTY;
+    };
+    begin_chapter(held)
+}
+
+fn begin_chapter(desk: &mut Desk) -> i32
+    ensures { BeginsChapter desk.old result desk.new }
+{
+    done(desk.begin_chapter())
 }
 
 /// The host kept the chapter: 0, and its handle is empty. -11, and no change: it is not the one that the host has of this

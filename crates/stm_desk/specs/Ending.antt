@@ -60,6 +60,19 @@ EndsChapter old (Err refused.NotEnded) new = ((chapter : ℕ) × (old.last ≡ l
 EndsChapter old (Err refused.Memory) new = (old.last ≡ last.Kept) × Settled old new
 EndsChapter old (Err _) new = ⊥
 
+-- the next chapter begins, and nothing is told of the one before
+pub record BeginsUntold (old new : Work) : Type 0 where
+  pub begins : BeginsNext old.store new.store
+  pub waiters : new.waiters ≡ old.waiters
+  pub history : new.history.items ≡ old.history.items
+  pub due : new.due.items ≡ []
+
+-- `begin_chapter`: once what ran has had its turn; else the host has a chapter, or did not keep it
+abbrev pub HasBegun : Work → Result (Unit {0}) Refused → Work → Type 0
+HasBegun old (Ok done) new = (old.last ≡ last.Kept) × ((mid : Work) × Settled old mid × BeginsUntold mid new)
+HasBegun old (Err refused.NotEnded) new = (old.last ≢ last.Kept) × (new ≡ old)
+HasBegun old (Err _) new = ⊥
+
 -- `kept` and `not_kept`: so it stands with the chapter that ended last, where that is the one that the host has
 abbrev pub TakesBack : Work → Ended → Last → Result (Unit {0}) Ended → Work → Type 0
 TakesBack old e how (Ok done) new = (old.last ≡ last.Out e.chapter) × (new ≡ record old { last = how })

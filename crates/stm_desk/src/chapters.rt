@@ -5,7 +5,7 @@ ghost use Rattle.book.specs.Turns.{IsIdle};
 ghost use Rattle.stm_store.specs.Keeping.{KeepsTasks};
 ghost use Rattle.stm_store.specs.declared.answers.Refused.TheVariants as Refused;
 ghost use Rattle.stm_desk.specs.Asking.{IsServed, IsStill};
-ghost use Rattle.stm_desk.specs.Ending.{EndsChapter, EndsNow, Settled, TakesBack};
+ghost use Rattle.stm_desk.specs.Ending.{BeginsNext, EndsChapter, EndsNow, HasBegun, Settled, TakesBack};
 ghost use Rattle.stm_desk.specs.History.{Begins};
 ghost use Rattle.stm_desk.specs.Running.{AreAwaited};
 ghost use Rattle.stm_desk.specs.Waiting.{waiting_at};
@@ -50,6 +50,20 @@ impl Desk {
         ensures { IsTrue result ↔ (self.now.work.last ≡ Last.Out chapter) }
     {
         self.work.last.is_out(chapter)
+    }
+
+    /// The present chapter ends, of which nobody keeps anything, and the next one begins, in which who waits waits on:
+    /// what is long and runs has its turn first. No text is made. `NotEnded` and no change exactly where the host has the
+    /// chapter before, or did not keep it.
+    pub fn begin_chapter(&mut self) -> Result<(), Refused>
+        ensures begun { HasBegun self.old.work result self.new.work }
+        ensures history { Begins self.old.work.history.items self.new.work.history.items }
+        ensures first { self.new.work.first.value ≡ self.old.work.first.value }
+        ensures closed { self.new.work.closed ≡ self.old.work.closed }
+        ensures last { self.new.work.last ≡ self.old.work.last }
+        ensures long { self.new.work.long.items ≡ self.old.work.long.items }
+    {
+        self.work.begin_chapter()
     }
 
     /// The host kept the chapter: it is over. `Err`, and nothing changed, where it is not the one that the host has of
@@ -113,11 +127,50 @@ impl Work {
         let Ok(ended) = ended_now(&self.store) else {
             return Err(Refused::Memory);
         };
+        self.next_chapter();
+        self.last = Last::Out(ended.chapter);
+        Ok(ended)
+    }
+
+    /// As of a desk.
+    pub(crate) fn begin_chapter(&mut self) -> Result<(), Refused>
+        ensures begun { HasBegun self.old result self.new }
+        ensures served { IsServed self.old.store → IsServed self.new.store }
+        ensures awaited { AreAwaited self.old.store self.old.waiters → AreAwaited self.new.store self.new.waiters }
+        ensures nobody { (ticket : ℕ) → waiting_at self.old.waiters ticket ≡ None
+            → waiting_at self.new.waiters ticket ≡ None }
+        ensures history { Begins self.old.history.items self.new.history.items }
+        ensures first { self.new.first.value ≡ self.old.first.value }
+        ensures closed { self.new.closed ≡ self.old.closed }
+        ensures last { self.new.last ≡ self.old.last }
+        ensures long { self.new.long.items ≡ self.old.long.items }
+    {
+        if !self.last.is_kept() {
+            return Err(Refused::NotEnded);
+        }
+        self.serve_all();
+        self.next_chapter();
+        Ok(())
+    }
+
+    /// The next chapter begins, where no task of the present one is ready or runs.
+    fn next_chapter(&mut self)
+        requires served { IsServed self.old.store }
+        requires still { IsStill self.old.store }
+        ensures begins { BeginsNext self.old.store self.new.store }
+        ensures due { self.new.due.items ≡ [] }
+        ensures last { self.new.last ≡ self.old.last }
+        ensures served { IsServed self.new.store }
+        ensures still { IsStill self.new.store }
+        ensures waiters { self.new.waiters ≡ self.old.waiters }
+        ensures history { self.new.history.items ≡ self.old.history.items }
+        ensures first { self.new.first.value ≡ self.old.first.value }
+        ensures closed { self.new.closed ≡ self.old.closed }
+        ensures long { self.new.long.items ≡ self.old.long.items }
+    {
         self.store.law();
         self.store.begin_chapter();
         self.due.clear();
-        self.last = Last::Out(ended.chapter);
-        Ok(ended)
     }
 
     /// As of a desk.

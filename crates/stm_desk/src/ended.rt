@@ -60,6 +60,13 @@ impl Last {
         matches!(self, Last::Out(_))
     }
 
+    /// Whether it was kept, or none has ended.
+    pub(crate) fn is_kept(&self) -> bool
+        ensures { IsTrue result ↔ (self.now ≡ Last.Kept) }
+    {
+        matches!(self, Last::Kept)
+    }
+
     /// Whether it was not kept.
     pub(crate) fn is_not_kept(&self) -> bool
         ensures { IsTrue result ↔ IsNotKept self.now }

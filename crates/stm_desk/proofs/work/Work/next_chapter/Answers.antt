@@ -3,7 +3,7 @@ use Rattle.std.proofs.Math.Logic.{∥∥₁_map}
 use Rattle.txn_programs.specs.Listing.{Listing}
 use Rattle.stm_desk.specs.Ending.{BeginsNext}
 use Rattle.stm_desk.proofs.Carrying.{next_accounts, next_seated, next_served, next_still}
-use Rattle.stm_desk.proofs.work.Work.begin_next.Goals as goal
+use Rattle.stm_desk.proofs.work.Work.next_chapter.Goals as goal
 
 pub invariant_of-self : goal.invariant_of-self
 invariant_of-self c =
