@@ -600,8 +600,23 @@ impl TaskTable {
         self.standings.truncate(count);
     }
 
-    /// The parked tasks whose log names a variable that a write changes are ready.
+    /// The parked tasks whose log names a variable that a write changes are ready. Where none is parked, it looks at no
+    /// write.
+    #[inline(always)]
     pub fn wake(&mut self, writes: &[(VarId, i64)], values: &[i64])
+        requires writes { AreWrites values.now writes.now }
+        requires valued { length values.now ≡ self.old.variables }
+        ensures { self.new ≡ with_tasks self.old (map (woken_by (changes_of values.now writes.now)) self.old.tasks) }
+    {
+        if self.tally().parked == 0 {
+            return;
+        }
+        self.wake_each(writes, values);
+    }
+
+    /// As `wake`. It is a call, so that a commit that wakes nobody stays short.
+    #[inline(never)]
+    fn wake_each(&mut self, writes: &[(VarId, i64)], values: &[i64])
         requires writes { AreWrites values.now writes.now }
         requires valued { length values.now ≡ self.old.variables }
         ensures { self.new ≡ with_tasks self.old (map (woken_by (changes_of values.now writes.now)) self.old.tasks) }
