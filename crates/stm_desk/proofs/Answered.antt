@@ -1,6 +1,7 @@
 -- What a call is answered, by what the store answered.
-use Rattle.std.proofs.Common.{◌≡◌, ◌≢◌, ◌∙◌, ℕ, [], ◌∷◌, ◌++◌, Result, Ok, Err, IfErr, IfOk, OnErr, OnOk, false, refl, sym, ap, subst}
+use Rattle.std.proofs.Common.{◌≡◌, ◌≢◌, ◌∙◌, ℕ, ℤ, List, [], ◌∷◌, ◌++◌, Result, Ok, Err, IfErr, IfOk, OnErr, OnOk, false, refl, sym, ap, subst}
 use Rattle.txn_programs.specs.declared.arguments.Call.{Call}
+use Rattle.txn_programs.specs.declared.ast.TxId.{TxId}
 use Rattle.stm_store.specs.Tickets.{TicketsView}
 use Rattle.stm_store.specs.Turning.{RefusesCall}
 use Rattle.stm_store.specs.declared.answers.End.{End}
@@ -61,6 +62,21 @@ refused_answers old new call way whose refused.Retries r same = (r, same)
 refused_answers old new call way whose refused.Memory r same = absurd r
 refused_answers old new call way whose refused.Closed r same = (r, same)
 refused_answers old new call way whose refused.TimedOut r same = (r, same)
+
+-- and not since memory was refused
+pub refused_memory : (way : Way) (s : Store) (tx : TxId) (xs : List ℤ) (why : Refused) → RefusesCall way s tx xs why → (let r : Result Asked Refused = Err why in r) ≡ Err refused.Memory → ⊥
+refused_memory way s tx xs refused.Memory h same = h
+refused_memory way s tx xs refused.Unknown h same = h
+refused_memory way s tx xs refused.Gone h same = h
+refused_memory way s tx xs refused.NotReady h same = h
+refused_memory way s tx xs refused.NotRunning h same = h
+refused_memory way s tx xs refused.NotEnded h same = h
+refused_memory way s tx xs refused.OtherProgram h same = h
+refused_memory way s tx xs refused.Stale h same = h
+refused_memory way s tx xs refused.Closed h same = h
+refused_memory way s tx xs refused.TimedOut h same = h
+refused_memory way s tx xs refused.NoRoom h same = cc (same)
+refused_memory way s tx xs refused.Retries h same = cc (same)
 
 -- what a long call is answered
 pub begun_asked : (old new : Desk) (call : Call) (way : Way) (whose : ℕ) (r : Result Asked Refused) → old.work.closed ≡ false → way ≡ ways.Waits → IsLong old.work.long.items call.tx → IsBegun old.work call whose r new.work → IsAsked old call way whose r new

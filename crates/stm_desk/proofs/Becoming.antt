@@ -481,7 +481,7 @@ committed_runs : (b : BookView) (task : TaskId) (k : ℕ) → slice_get (committ
 unfolding committed
 committed_runs b task k e = woken_runs b.present.state (after (task_program b.catalogue task) b.present.state) (set b.tasks task.0 (Done (b.present.number + 1))) k e
 
-short_tasks : (due : Bool) (b : BookView) → (if due then checkpointed b else b).tasks ≡ b.tasks
+pub short_tasks : (due : Bool) (b : BookView) → (if due then checkpointed b else b).tasks ≡ b.tasks
 short_tasks true b = refl
 short_tasks false b = refl
 

@@ -7,7 +7,8 @@ use Rattle.std.proofs.lemmas.Option.{get_or_from_slice_get, same_Some, slice_get
 use Rattle.txn_programs.specs.declared.ast.TaskId.{TaskId}
 use Rattle.txn_programs.specs.declared.ast.TxId.{TxId}
 use Rattle.txn_programs.specs.declared.arguments.Call.{Call}
-use Rattle.txn_programs.specs.Listing.{Listing, calls, tasks, task_arguments}
+use Rattle.txn_programs.specs.Listing.{Listing, calls, tasks, task_arguments, task_tx}
+use Rattle.attempt.specs.Room.{TakesMemory}
 use Rattle.txn.specs.Grown.{grown}
 use Rattle.txn.proofs.Growing.{calls_grown}
 use Rattle.book.specs.View.{BookView, committed, checkpointed}
@@ -36,7 +37,7 @@ use Rattle.stm_desk.specs.Running.{AreAwaited, RunsAt}
 use Rattle.stm_desk.specs.Steps.{HasBecome, HasStayed, StaysBut}
 use Rattle.stm_desk.specs.Waiting.{waiting_at}
 use Rattle.stm_desk.proofs.Flags.{as_ends, closed_set, ends_open, get_append_left, get_set_other, map_set, not_set, stays_open}
-use Rattle.stm_desk.proofs.Becoming.{ends_running, entered_lawful, entered_state, set_twice, ticket_given}
+use Rattle.stm_desk.proofs.Becoming.{ends_running, entered_lawful, entered_state, memory_same, set_twice, ticket_given}
 
 -- an element of a list with one more
 pub get_more : {A : Type 0} (xs : List A) (y : A) (k : ℕ) (x : A) → slice_get (xs ++ y ∷ []) k ≡ Some x → (slice_get xs k ≡ Some x) ⊎ ((k ≡ length xs) × (y ≡ x))
@@ -267,6 +268,13 @@ call_abandons old new call job c =
       lawful = tt;
       present = ap (λ (b : BookView). b.present.state) c.runs.ends.0.1;
     }
+
+-- its transaction takes memory
+pub call_memory : (old new : Store) (call : Call) (job : Job) → IsCalled old new call job end.Abandoned → length old.book.catalogue.initial ≡ length old.catalogue.now.initial → TakesMemory old.catalogue.now call.tx
+call_memory old new call job c wide =
+    let l = (called_book old.book call.tx call.arguments job.task).catalogue in
+    let of : task_tx l job.task ≡ call.tx = get_or_from_slice_get (tasks l) job.task.0 call.tx (record { 0 = 0 }) (submitted_runs old.book call job.task c.fits c.runs.is_new.task) in
+    memory_same l old.catalogue.now call.tx c.declared wide (subst (TakesMemory l) of c.runs.ends.1)
 
 -- a task more that is open makes the call
 pub more_open : (old new : Store) (call : Call) (task : TaskId) (ticket : Ticket) → BookFits old.book → IsMore old new call task ticket true → HasOpenCall new ticket call

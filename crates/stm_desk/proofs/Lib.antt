@@ -10,5 +10,6 @@ mod Settling
 mod Beginning
 mod Carrying
 mod Turned
+mod Lending
 mod Ending
 pub mod Crossing

@@ -1,8 +1,8 @@
 -- What a desk keeps where a task had its turn.
-use Rattle.std.proofs.Common.{◌≡◌, ◌≢◌, ◌∙◌, ◌⊎◌, inl, inr, ℕ, zero, suc, ◌+◌, Bool, List, [], ◌∷◌, ◌++◌, Option, Some, None, Result, Ok, Err, OnErr, OnOk, length, map, set, refl, sym, ap, subst}
+use Rattle.std.proofs.Common.{◌≡◌, ◌≢◌, ◌∙◌, ◌⊎◌, inl, inr, ℕ, zero, suc, Bool, List, [], ◌∷◌, ◌++◌, Option, Some, None, Result, Ok, Err, OnErr, OnOk, length, map, set, refl, sym, ap, subst}
 use Rattle.std.specs.List.{slice_get}
 use Rattle.std.proofs.lemmas.Bool.{cases_eq}
-use Rattle.std.proofs.lemmas.List.{append-nil, append_assoc}
+use Rattle.std.proofs.lemmas.List.{append-nil}
 use Rattle.std.proofs.lemmas.Option.{same_Some}
 use Rattle.std.proofs.Math.Logic.{∥∥₁_elim, ∥∥₁_map, ∥∥₁_prop}
 use Rattle.txn_programs.specs.declared.arguments.Call.{Call}
@@ -32,13 +32,13 @@ use Rattle.stm_desk.specs.Asking.{IsStill, answer_of, call_of}
 use Rattle.stm_desk.specs.Open.{open_tasks}
 use Rattle.stm_desk.specs.History.{Begins, History}
 use Rattle.stm_desk.specs.Keeping.{Accounts}
-use Rattle.stm_desk.specs.Running.{AreAwaited, AwaitedBut, HandsNothingOut, HandsOut, HasJob, IsLong, NobodyWaits, RunsAt, noted_by}
+use Rattle.stm_desk.specs.Running.{AreAwaited, AwaitedBut, HandsNothingOut, NobodyWaits, RunsAt, noted_by}
 use Rattle.stm_desk.specs.Settling.{IsNoted, Noted, Settles}
 use Rattle.stm_desk.specs.Waiting.{HandsOn, IsSeated, OthersStay, waiting_at}
-use Rattle.stm_desk.proofs.Becoming.{Goes, IsAlike, alike_over, alike_was_over, goes_abandons, goes_enters, goes_parks, goes_running, present_on, same_held, stood}
+use Rattle.stm_desk.proofs.Becoming.{Goes, IsAlike, alike_over, alike_was_over, goes_abandons, goes_enters, goes_parks, goes_running, same_held, stood}
 use Rattle.stm_desk.proofs.Calling.{get_more}
-use Rattle.stm_desk.proofs.Flags.{get_append_left, get_set_other}
-use Rattle.stm_desk.proofs.Handing.{get_both, get_right, hands_nothing, hands_told}
+use Rattle.stm_desk.proofs.Flags.{get_set_other}
+use Rattle.stm_desk.proofs.Handing.{hands_nothing, hands_told}
 use Rattle.stm_desk.proofs.Legal.{accounts_become, accounts_stay, counted_more}
 use Rattle.stm_desk.proofs.Seats.{AreSeated, AreTold, seated_alike, seated_but, told_entered, told_memory}
 
@@ -112,52 +112,6 @@ settles_awaited old new job how n m g is all k t runs held none =
     let apart : t ≢ job.ticket.0 = λ same. was.1 (same_held old.tickets k job.task.0 t job.ticket.0 g.tickets here g.is_job.ticket same) in
     all k t was.1 was.0 here (sym (settles_others job how n m is t apart) ∙ none)
 
--- over several calls
-none_there : (P : Type 0) (k : ℕ) (j : Job) → slice_get [] k ≡ Some j → P
-none_there P k j e = absurd (cc e)
-
-pub hands_out_nothing : (w : Work) → HandsOut w w
-hands_out_nothing w = record { more = []; due = sym (append-nil w.due.items); each = λ k r. inl r; long = λ k j e. none_there (IsLong w.long.items j.tx) k j e }
-
-pub hands_out_after : (old mid new : Work) → HandsNothingOut old mid → HandsOut mid new → HandsOut old new
-hands_out_after old mid new p q =
-    record {
-      more = q.more;
-      due = q.due ∙ ap (λ (js : List Job). js ++ q.more) p.due;
-      each = λ k r. elim (q.each k r) [
-        | inl was ↦ inl (p.runs k was)
-        | inr has ↦ inr has
-      ];
-      long = λ k j e. subst (λ (xs : List Bool). IsLong xs j.tx) p.long (q.long k j e);
-    }
-
-in_first : (s : Store) (xs ys : List Job) (k : ℕ) → HasJob s xs k → HasJob s (xs ++ ys) k
-in_first s xs ys k h = record { place = h.place; job = h.job; at_place = get_append_left xs ys h.place h.job h.at_place; of = h.of; present = h.present }
-
-in_second : (s : Store) (xs ys : List Job) (k : ℕ) → HasJob s ys k → HasJob s (xs ++ ys) k
-in_second s xs ys k h = record { place = length xs + h.place; job = h.job; at_place = get_right xs ys h.place h.job h.at_place; of = h.of; present = h.present }
-
-on_kept : (s t : Store) (xs : List Job) (k : ℕ) → KeepsTasks s t → HasJob s xs k → HasJob t xs k
-on_kept s t xs k kept h = record { place = h.place; job = h.job; at_place = h.at_place; of = h.of; present = present_on s t h.job kept h.present }
-
-pub hands_out_both : (a b c : Work) → KeepsTasks b.store c.store → b.long.items ≡ a.long.items → HandsOut a b → HandsOut b c → HandsOut a c
-hands_out_both a b c kept same p q =
-    record {
-      more = p.more ++ q.more;
-      due = q.due ∙ (ap (λ (js : List Job). js ++ q.more) p.due ∙ append_assoc a.due.items p.more q.more);
-      each = λ k r. elim (q.each k r) [
-        | inl was ↦ elim (p.each k was) [
-          | inl before ↦ inl before
-          | inr has ↦ inr (in_first c.store p.more q.more k (on_kept b.store c.store p.more k kept has))
-        ]
-        | inr has ↦ inr (in_second c.store p.more q.more k has)
-      ];
-      long = λ k j e. elim (get_both p.more q.more k j e) [
-        | inl first ↦ p.long k j first
-        | inr second ↦ subst (λ (xs : List Bool). IsLong xs j.tx) same (q.long second.0 j second.2)
-      ];
-    }
-
 -- a task that was taken runs
 pub take_runs : (old mid : Store) (job : Job) (k : ℕ) → TakesJob old (Ok job) mid → RunsAt mid k → RunsAt old k ⊎ (k ≡ job.task.0)
 take_runs old mid job k taken runs =
@@ -166,23 +120,6 @@ take_runs old mid job k taken runs =
       | inl same ↦ inr same
       | inr apart ↦ inl (sym (get_set_other old.book.tasks job.task.0 k Running apart) ∙ at)
     ]
-
-only_one : (j i : Job) (k : ℕ) → slice_get (j ∷ []) k ≡ Some i → j ≡ i
-only_one j i zero e = cc
-only_one j i (suc k) e = absurd (cc)
-
--- it is handed out, where somebody waits for it
-pub take_hands_out : (old new : Work) (job : Job) → KeepsTasks old.store new.store → TakesJob old.store (Ok job) new.store → new.due.items ≡ old.due.items ++ job ∷ [] → IsLong old.long.items job.tx → HandsOut old new
-take_hands_out old new job kept taken due long =
-    record {
-      more = job ∷ [];
-      due = due;
-      each = λ k r. elim (take_runs old.store new.store job k taken r) [
-        | inl was ↦ inl was
-        | inr same ↦ inr (record { place = 0; job = job; at_place = refl; of = sym same; present = present_on old.store new.store job kept taken.1 })
-      ];
-      long = λ k j e. subst (λ (i : Job). IsLong old.long.items i.tx) (only_one job j k e) long;
-    }
 
 pub take_awaited : (old mid : Store) (w : Waiters) (job : Job) → KeepsTasks old mid → TakesJob old (Ok job) mid → AreAwaited old w → AwaitedBut mid w job.task
 take_awaited old mid w job kept taken all k t apart runs held = elim (take_runs old mid job k taken runs) [
@@ -198,21 +135,6 @@ handed_awaited mid w job own waits all k t runs held = elim (cases_eq k job.task
       subst (λ (n : ℕ). waiting_at w n ≢ None) (sym is) waits
   | inr apart ↦ all k t apart runs held
 ]
-
--- the lowest ready task had its turn
-pub turned_hands_out : (old new : Work) (mid : Store) (job : Job) (how : End) → new.due.items ≡ old.due.items → TakesJob old.store (Ok job) mid → Goes mid new.store job how → HandsOut old new
-turned_hands_out old new mid job how due taken g =
-    record {
-      more = [];
-      due = due ∙ sym (append-nil old.due.items);
-      each = λ k r.
-          let was = goes_running mid new.store job how k g r in
-          elim (take_runs old.store mid job k taken was.0) [
-            | inl before ↦ inl before
-            | inr same ↦ absurd (was.1 same)
-          ];
-      long = λ k j e. none_there (IsLong old.long.items j.tx) k j e;
-    }
 
 -- a withdrawal
 pub gives_up_running : (old new : Store) (ticket : Ticket) (k : ℕ) → (h : GivesUp old ticket (Ok tt) new) → RunsAt new k → RunsAt old k × (k ≢ h.0.0)

@@ -27,7 +27,7 @@ use Rattle.stm_desk.specs.Waiting.{HandsOn, IsSeated}
 abbrev pub history_of : Desk → History
 history_of d = d.work.history.items
 
--- the call's own entry is the next one, at the place that is the history's length before; what it woke is behind it, and
+-- the call's own entry is the next one, at the place that is the history's length before, and what it woke is behind it;
 -- no other task was made
 pub record IsEnteredNext (old : Desk) (call : Call) (a : Answer) (new : Desk) : Type 0 where
   pub ticket : a.ticket ≡ next_ticket old.work.store

@@ -57,12 +57,23 @@ pub record HandsNothingOut (old new : Work) : Type 0 where
   pub long : new.long.items ≡ old.long.items
   pub runs : (k : ℕ) → RunsAt new.store k → RunsAt old.store k
 
--- each task that runs ran before, or is to be handed out behind all that was to be before, which only long ones are
+-- each task that runs ran before, or is to be handed out, once, behind all that was to be before; only long ones are,
+-- which run
 pub record HandsOut (old new : Work) : Type 0 where
   pub more : List Job
   pub due : new.due.items ≡ old.due.items ++ more
   pub each : (k : ℕ) → RunsAt new.store k → RunsAt old.store k ⊎ HasJob new.store more k
   pub long : (place : ℕ) (job : Job) → slice_get more place ≡ Some job → IsLong old.long.items job.tx
+  pub running : (place : ℕ) (job : Job) → slice_get more place ≡ Some job
+      → IsPresentJob new.store job × RunsAt new.store job.task.0
+  pub once : (i j : ℕ) (a b : Job) → slice_get more i ≡ Some a → slice_get more j ≡ Some b
+      → a.task.0 ≡ b.task.0 → i ≡ j
+
+-- by turns of ready tasks alone: what ran runs on, and what is to be handed out did not run before
+pub record LendsOut (old new : Work) : Type 0 where
+  pub hands_out : HandsOut old new
+  pub runs_on : (k : ℕ) → RunsAt old.store k → RunsAt new.store k
+  pub fresh : (place : ℕ) (job : Job) → slice_get hands_out.more place ≡ Some job → RunsAt old.store job.task.0 → ⊥
 
 -- of no job of the list anybody waits for the task
 abbrev pub NobodyWaits : Waiters → List Job → Type 0

@@ -25,6 +25,7 @@ pub struct Desk {
 
 impl Desk {
     ghost use Rattle.std.specs.Prelude.{◌++◌, ◌⊎◌, ◌≢◌, [], false, Err, IfSome, Some, option_to_list};
+    ghost use Rattle.attempt.specs.Room.{TakesMemory};
     ghost use Rattle.book.specs.LawfulBook.{LawfulBook};
     ghost use Rattle.stm_desk.specs.declared.waiters.Waiting.{Waiting};
     ghost use Rattle.txn_programs.specs.Listing.{IsCallable};
@@ -66,11 +67,12 @@ impl Desk {
     /// `Closed` exactly where the desk is closed; else `Unknown` exactly where there is no such transaction, or it has
     /// not as many parameters as there are arguments; `Retries` only of a try that retries on the present values. Then
     /// nothing changed. `Memory`: a growth was refused, so the task was given up, and for those who wait nothing
-    /// changed.
+    /// changed; a try is told so only where its transaction takes memory.
     ///
     /// Where there is no room for a task more: `ChapterFull` where a new chapter would have some, and nothing changed.
-    /// Where it would have none, what runs has its turn here first: `ChapterFull` where there is some then, and `NoRoom`
-    /// where even so each place is of a task that waits. `NoRoom` and no change where the chapter before was not kept.
+    /// Where it would have none, what runs has its turn here first: `ChapterFull` where there is some then, and
+    /// `NoRoom` where even so each place is of a task that waits. `NoRoom` and no change where the chapter before was
+    /// not kept.
     pub fn ask(
         &mut self,
         tx: TxId,
@@ -86,6 +88,8 @@ impl Desk {
         ensures chapter { self.new.work.store.chapter ≡ self.old.work.store.chapter }
         ensures long { self.new.work.long.items ≡ self.old.work.long.items }
         ensures lent { way ≡ Way.Waits → IsLong self.old.work.long.items tx → IsLent result }
+        ensures memory { result ≡ Err Refused.Memory → way ≡ Way.Tries
+            → TakesMemory self.old.work.store.catalogue.now tx }
         ensures known { result ≢ Err Refused.Closed → result ≢ Err Refused.Unknown
             → IsCallable self.old.work.store.catalogue.now tx arguments.now }
     {

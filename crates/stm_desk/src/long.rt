@@ -30,8 +30,8 @@ pub(crate) fn is_begun(long: &[bool], way: Way, tx: TxId) -> bool
 }
 
 impl Work {
-    /// A task of the call more, which runs: whoever asked evaluates it, and waits for it. `NoRoom`, and where the chapter
-    /// is full: there is no task of it. `Memory`: the task is given up.
+    /// A task of the call more, which runs: whoever asked evaluates it, and waits for it. `NoRoom`, and where the
+    /// chapter is full: there is no task of it. `Memory`: the task is given up.
     pub(crate) fn begin(&mut self, call: &Call, whose: u64) -> Result<Asked, Refused>
         requires known { IsCallable self.old.store.catalogue.now call.now.tx call.now.arguments }
         ensures begun { IsBegun self.old call.now whose result self.new }

@@ -6,7 +6,7 @@ ghost use Rattle.stm_store.specs.Keeping.{HasBrought, KeepsTasks};
 ghost use Rattle.stm_desk.specs.Asking.{GoesOn, IsSame, IsServed, IsStill};
 ghost use Rattle.stm_desk.specs.Ending.{Settled};
 ghost use Rattle.stm_desk.specs.Running.{AreAwaited, AwaitedBut, HadTurn, HandsNothingOut, HandsOut};
-ghost use Rattle.stm_desk.specs.Running.{HasBroughtTo, IsHanded, IsLong, RefusesTurn};
+ghost use Rattle.stm_desk.specs.Running.{HasBroughtTo, IsHanded, IsLong, LendsOut, RefusesTurn};
 ghost use Rattle.stm_desk.specs.Serving.{IsLighter};
 ghost use Rattle.stm_desk.specs.Waiting.{HandsOn, waiting_at};
 
@@ -69,7 +69,7 @@ impl Work {
         ensures lighter { result ≡ true → IsLighter self.old.store self.new.store }
         ensures awaited { AreAwaited self.old.store self.old.waiters → AreAwaited self.new.store self.new.waiters }
         ensures hands_on { HandsOn self.old.waiters self.new.waiters }
-        ensures hands_out { HandsOut self.old self.new }
+        ensures lends { LendsOut self.old self.new }
         ensures kept { KeepsTasks self.old.store self.new.store }
         ensures goes_on { GoesOn self.old self.new }
     {

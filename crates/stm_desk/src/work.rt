@@ -49,7 +49,7 @@ pub struct Work {
 }
 
 impl Work {
-    ghost use Rattle.std.specs.Prelude.{None, Ok, true, false, IfErr, IfOk, IfSome, OnErr, OnOk, option_to_list};
+    ghost use Rattle.std.specs.Prelude.{Err, None, Ok, true, false, IfErr, IfOk, IfSome, OnErr, OnOk, option_to_list};
     ghost use Rattle.std.specs.BTreeMap.{btree_map_len};
     ghost use Rattle.book.specs.LawfulBook.{LawfulBook};
     ghost use Rattle.txn_programs.specs.Listing.{IsCallable};
@@ -59,7 +59,9 @@ impl Work {
     ghost use Rattle.stm_desk.specs.Running.{AreAwaited, HandsNothingOut};
     ghost use Rattle.stm_desk.specs.Serving.{HasLeft, OnlyLeft, WasGivenUp};
     ghost use Rattle.stm_desk.specs.Waiting.{AreShutOut, IsSeated, WaitAsBefore};
+    ghost use Rattle.attempt.specs.Room.{TakesMemory};
     ghost use Rattle.stm_store.specs.declared.answers.Refused.TheVariants as Refused;
+    ghost use Rattle.stm_store.specs.declared.answers.Way.TheVariants as Way;
     ghost use Rattle.stm_desk.specs.declared.answers.Answer.{Answer};
     ghost use Rattle.stm_desk.specs.declared.answers.Asked.TheVariants as Asked;
     ghost use Rattle.stm_desk.specs.Open.{HasOpen, IsParkedCall, IsRunningCall};
@@ -101,6 +103,8 @@ impl Work {
             → IsServed self.old.store → IsServed self.new.store }
         ensures awaited { AreAwaited self.old.store self.old.waiters → AreAwaited self.new.store self.new.waiters }
         ensures hands_out { HandsNothingOut self.old self.new }
+        ensures memory { result ≡ Err Refused.Memory → way ≡ Way.Tries
+            → TakesMemory self.old.store.catalogue.now call.now.tx }
         ensures goes_on { GoesOn self.old self.new }
     {
         self.store.law();

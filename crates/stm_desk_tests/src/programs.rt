@@ -118,8 +118,8 @@ fn is_called(desk: &mut Desk, times: usize) -> bool {
     true
 }
 
-/// Whether the first chapter ends with a file that is longer than one that has no tables may be, so that it says that it
-/// is of the third form.
+/// Whether the first chapter ends with a file that is longer than one that has no tables may be, so that it says that
+/// it is of the third form.
 fn ends_with_a_long_file(desk: &mut Desk) -> bool {
     let Ok(ended) = desk.end_chapter() else {
         return false;

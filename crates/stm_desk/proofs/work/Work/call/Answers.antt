@@ -6,9 +6,9 @@ use Rattle.stm_desk.specs.declared.answers.Became.TheVariants as became
 use Rattle.stm_desk.specs.declared.answers.Answer.{Answer}
 use Rattle.stm_desk.specs.History.{History}
 use Rattle.stm_desk.specs.Keeping.{Accounts}
-use Rattle.stm_desk.proofs.Answered.{only_waits, refused_answers, sit_answers}
+use Rattle.stm_desk.proofs.Answered.{only_waits, refused_answers, refused_memory, sit_answers}
 use Rattle.stm_desk.proofs.Becoming.{alike_over, alike_was_over, unchanged_alike}
-use Rattle.stm_desk.proofs.Calling.{IsCalled, call_abandons, call_enters, call_parked, call_awaited, call_running, call_served, call_stays, is_called, next_is, number_is, one_more}
+use Rattle.stm_desk.proofs.Calling.{IsCalled, call_abandons, call_enters, call_memory, call_parked, call_awaited, call_running, call_served, call_stays, is_called, next_is, number_is, one_more}
 use Rattle.stm_desk.proofs.Legal.{accounts_become, accounts_stay, counted_more, place_left, stayed_over}
 use Rattle.stm_desk.proofs.Seats.{AreTold, all_told_on, nobody_new, seated_alike, seated_still, waits_as_before}
 use Rattle.stm_desk.proofs.Settling.{alike_awaited, alike_hands_out}
@@ -270,3 +270,20 @@ returns-in-Parked-clause-hands_out c =
     let is = is_called s.store c.call-called.new.self c.args.call.now c.as_slice.result.now c.in-Ok.turn.0 c.in-Ok.turn.1 c.as_slice.ensures.value c.law.ensures.declared c.law.ensures.fits c.law.ensures.each c.law.ensures.tickets c.in-Ok.ensures.kept c.in-Ok.ensures.called.0 in
     let sat = c.sit.ensures.hands_out in
     record { due = sat.due; long = sat.long; runs = λ k r. call_running s.store c.call-called.new.self c.args.call.now c.in-Ok.turn.0 c.in-Ok.turn.1 k is (sat.runs k r) }
+
+-- only where its transaction takes memory
+pub returns-in-Err-clause-memory : goal.returns-in-Err-clause-memory
+returns-in-Err-clause-memory c same tries =
+    absurd (refused_memory c.args.way c.args.self.now.store c.args.call.now.tx c.as_slice.result.now c.in-Err.why c.in-Err.ensures.called.0 same)
+
+pub returns-in-Abandoned-clause-memory : goal.returns-in-Abandoned-clause-memory
+returns-in-Abandoned-clause-memory c same tries =
+    let s = c.args.self.now in
+    let new = c.call-called.new.self in
+    let call = c.args.call.now in
+    let job = c.in-Ok.turn.0 in
+    let is = is_called s.store c.call-called.new.self c.args.call.now c.as_slice.result.now c.in-Ok.turn.0 c.in-Ok.turn.1 c.as_slice.ensures.value c.law.ensures.declared c.law.ensures.fits c.law.ensures.each c.law.ensures.tickets c.in-Ok.ensures.kept c.in-Ok.ensures.called.0 in
+    call_memory s.store new call job (subst (IsCalled s.store new call job) c.in-Abandoned.is is) c.law.ensures.wide
+
+pub returns-in-Parked-clause-memory : goal.returns-in-Parked-clause-memory
+returns-in-Parked-clause-memory c same tries = absurd (c.in-Ok.ensures.called.1 tries c.in-Parked.is)

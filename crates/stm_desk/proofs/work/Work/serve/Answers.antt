@@ -1,6 +1,7 @@
 use Rattle.std.proofs.Common.{refl}
 use Rattle.stm_desk.proofs.Handing.{goes_both, goes_nothing, hands_both, hands_nothing}
-use Rattle.stm_desk.proofs.Settling.{hands_out_both, hands_out_nothing, keeps_both, keeps_nothing}
+use Rattle.stm_desk.proofs.Lending.{lends_both, lends_nothing}
+use Rattle.stm_desk.proofs.Settling.{keeps_both, keeps_nothing}
 use Rattle.stm_desk.proofs.work.Work.serve.Goals as goal
 
 pub loop-init : goal.loop-init
@@ -9,7 +10,7 @@ loop-init c =
     record {
       goes_on = goes_nothing s;
       hands_on = hands_nothing s.waiters s.waiters refl;
-      hands_out = hands_out_nothing s;
+      lends = lends_nothing s s refl refl;
       kept = keeps_nothing s.store;
       awaited = λ all. all;
     }
@@ -21,7 +22,7 @@ loop-preserved c =
     record {
       goes_on = goes_both _ _ _ so_far.goes_on one.goes_on;
       hands_on = hands_both _ _ _ so_far.hands_on one.hands_on;
-      hands_out = hands_out_both _ _ _ one.kept so_far.goes_on.long so_far.hands_out one.hands_out;
+      lends = lends_both _ _ _ one.kept so_far.goes_on.long so_far.lends one.lends;
       kept = keeps_both _ _ _ so_far.kept one.kept;
       awaited = λ all. one.awaited (so_far.awaited all);
     }
@@ -33,7 +34,7 @@ pub returns-clause-hands_on : goal.returns-clause-hands_on
 returns-clause-hands_on c = hands_both _ _ _ c.loop.invariant.hands_on c.serve_next.ensures.hands_on
 
 pub returns-clause-hands_out : goal.returns-clause-hands_out
-returns-clause-hands_out c = hands_out_both _ _ _ c.serve_next.ensures.kept c.loop.invariant.goes_on.long c.loop.invariant.hands_out c.serve_next.ensures.hands_out
+returns-clause-hands_out c = (lends_both _ _ _ c.serve_next.ensures.kept c.loop.invariant.goes_on.long c.loop.invariant.lends c.serve_next.ensures.lends).hands_out
 
 pub returns-clause-kept : goal.returns-clause-kept
 returns-clause-kept c = keeps_both _ _ _ c.loop.invariant.kept c.serve_next.ensures.kept

@@ -1,4 +1,4 @@
-use Rattle.std.proofs.Common.{◌≡◌, ◌<◌, ◌∙◌, ap, length, sym, subst, slice_get, inl, inr, Some, Bool, List}
+use Rattle.std.proofs.Common.{◌≡◌, ◌<◌, ◌∙◌, ap, length, refl, sym, subst, slice_get, inl, inr, Some, Bool, List}
 use Rattle.txn_programs.specs.Listing.{Listing}
 use Rattle.book.specs.Tasks.{Running}
 use Rattle.book.specs.View.{BookView}
@@ -8,7 +8,8 @@ use Rattle.stm_store.specs.Working.{declaring}
 use Rattle.stm_desk.specs.Running.{noted_by, IsLong}
 use Rattle.stm_desk.proofs.Becoming.{goes_running, none_alike, present_on, ready_lighter, take_alike, takes_none, turn_goes, turned_lighter}
 use Rattle.stm_desk.proofs.Refusing.{turn_always}
-use Rattle.stm_desk.proofs.Settling.{alike_keeps, handed_awaited, kept_of, take_awaited, take_hands_out, take_runs, turned_hands_out}
+use Rattle.stm_desk.proofs.Settling.{alike_keeps, handed_awaited, kept_of, take_awaited, take_runs}
+use Rattle.stm_desk.proofs.Lending.{lends_nothing, take_lends, turned_lends}
 use Rattle.stm_desk.proofs.work.Work.serve_next.Goals as goal
 
 -- none is ready
@@ -56,10 +57,10 @@ returns-then-hand_out-clause-awaited c all =
     let own = (present_on s.store mid job c.in-Ok.ensures.kept c.in-Ok.ensures.taken.1).0.ticket in
     handed_awaited mid s.waiters job own (c.hand_out.ensures.handed c.if-hand_out.true).1 (take_awaited s.store mid s.waiters job c.in-Ok.ensures.kept c.in-Ok.ensures.taken all)
 
-pub returns-then-hand_out-clause-hands_out : goal.returns-then-hand_out-clause-hands_out
-returns-then-hand_out-clause-hands_out c =
+pub returns-then-hand_out-clause-lends : goal.returns-then-hand_out-clause-lends
+returns-then-hand_out-clause-lends c =
     let handed = c.hand_out.ensures.handed c.if-hand_out.true in
-    take_hands_out c.args.self.now _ c.in-Ok.job c.in-Ok.ensures.kept c.in-Ok.ensures.taken handed.0 (subst (λ (xs : List Bool). IsLong xs c.in-Ok.job.tx) c.deref.ensures.value handed.3)
+    take_lends c.args.self.now _ c.in-Ok.job c.in-Ok.ensures.kept c.in-Ok.ensures.taken handed.0 (subst (λ (xs : List Bool). IsLong xs c.in-Ok.job.tx) c.deref.ensures.value handed.3)
 
 -- or has its turn
 pub unreachable-requires : goal.unreachable-requires
@@ -80,8 +81,8 @@ returns-clause-awaited c all =
     let s = c.args.self.now in
     c.in-Ok-turn.ensures.awaited (take_awaited s.store c.take.new.self s.waiters c.in-Ok.job c.in-Ok.ensures.kept c.in-Ok.ensures.taken all)
 
-pub returns-clause-hands_out : goal.returns-clause-hands_out
-returns-clause-hands_out c =
+pub returns-clause-lends : goal.returns-clause-lends
+returns-clause-lends c =
     let s = c.args.self.now in
     let mid = c.take.new.self in
     let new = c.turn.new.self in
@@ -91,7 +92,12 @@ returns-clause-hands_out c =
     let tickets = subst AreTickets (sym kept.tickets) c.law.ensures.tickets in
     let declared = ap declaring kept.listing ∙ (c.law.ensures.declared ∙ ap declaring (sym kept.store.catalogue)) in
     let due = c.in-Ok-turn.ensures.hands_out.due ∙ c.hand_out.ensures.kept c.if-hand_out.false in
-    turned_hands_out s new mid job had.0 due c.in-Ok.ensures.taken (turn_goes mid new.store job had.0 c.in-Ok-turn.ensures.kept tickets declared had.1)
+    turned_lends s new mid job had.0 due c.in-Ok.ensures.taken (turn_goes mid new.store job had.0 c.in-Ok-turn.ensures.kept tickets declared had.1)
+
+pub returns-in_default-clause-lends : goal.returns-in_default-clause-lends
+returns-in_default-clause-lends c =
+    let s = c.args.self.now in
+    lends_nothing s _ refl (takes_none s.store c.take.new.self c.in_default.field-0 c.in_default.ensures.taken).1
 
 -- none runs where nothing is handed out
 pub returns-in_default-clause-still : goal.returns-in_default-clause-still
