@@ -85,8 +85,9 @@ static int32_t wait_for_host(stm_service *s, struct call *call, const struct tim
     return call->answer.code;
 }
 
-/* The chapter is full. It ends, or the one before that was not kept is told again: STM_DONE, ask again; else the code of
- * the call's answer. A call has the host asked once for what it does not keep, and the host's own call not at all. */
+/* The chapter is full. It ends, or the one before that was not kept is told again: STM_DONE, ask again; else the code
+ * of the call's answer. A call has the host asked once for what it does not keep, and the host's own call not at all.
+ * */
 static int32_t end_chapter(stm_service *s, struct call *call, const struct timespec *until, bool *is_refused) {
     stm_ended ended = {0};
     if (is_teller(s) || (*is_refused && s->chapters.is_refused)) return STM_NO_ROOM;

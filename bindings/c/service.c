@@ -1,15 +1,15 @@
 /* Calls from any thread, over pthreads: see service.h. It is inside libstm.a and libstm.so.
  *
- * What a call does, who waits for what, and when a chapter is full, is the desk's (desk.h), on which one call at a time is
- * made. Here are its lock (lock.h), the threads that sleep until the desk tells them something (bell.h, waiting.h), the
- * workers by which they evaluate what is long (workers.h), and the host, who is told the chapters (chapters.h).
+ * What a call does, who waits for what, and when a chapter is full, is the desk's (desk.h), on which one call at a time
+ * is made. Here are its lock (lock.h), the threads that sleep until the desk tells them something (bell.h, waiting.h),
+ * the workers by which they evaluate what is long (workers.h), and the host, who is told the chapters (chapters.h).
  *
- * A thread that finds the lock taken asks for its call at a seat, and who has the lock makes it: so under contention the
- * desk stays with one processor for some calls, and few threads sleep.
+ * A thread that finds the lock taken asks for its call at a seat, and who has the lock makes it: so under contention
+ * the desk stays with one processor for some calls, and few threads sleep.
  *
- * A call that waits lies on its thread's stack, and the desk knows it by where it lies. Who has the lock writes the answer
- * down there. The bells are rung when the lock is free again, and a thread goes on only after its bell: so a call is there
- * for as long as another thread knows of it. */
+ * A call that waits lies on its thread's stack, and the desk knows it by where it lies. Who has the lock writes the
+ * answer down there. The bells are rung when the lock is free again, and a thread goes on only after its bell: so a
+ * call is there for as long as another thread knows of it. */
 #ifndef _POSIX_C_SOURCE
 #define _POSIX_C_SOURCE 200809L
 #endif
@@ -40,8 +40,8 @@ static inline stm_answer ask_desk(stm_service *s, const struct asked *asked) {
     return answer;
 }
 
-/* Under the lock: asks for a thread as it asks at its seat: whether that goes on at once. One that does not is in a call
- * until it leaves. */
+/* Under the lock: asks for a thread as it asks at its seat: whether that goes on at once. One that does not is in a
+ * call until it leaves. */
 static bool make(void *service, void *place) {
     union seated *seated = place;
     seated->answer = ask_desk(service, &seated->asked);

@@ -1,26 +1,26 @@
 /* stm: transactions that any thread calls and waits for.
  *
- * A service is a store with its lock and its waiting threads in one handle. A thread calls a transaction, which
- * runs as one atomic step, and gets its outcome; where the transaction retries, the thread sleeps until it has run.
+ * A service is a store with its lock and its waiting threads in one handle. A thread calls a transaction, which runs as
+ * one atomic step, and gets its outcome; where the transaction retries, the thread sleeps until it has run.
  *
  * Short transactions run one at a time, under the lock. A long one (`stm_program_long`) is evaluated by the thread that
  * calls it, beside what others commit, and takes the lock only to be submitted and entered. It runs under the lock if
- * every worker is taken, if others changed what it read in 8 tries, if it only tries, and if a chapter ends, or the report
- * or the file is asked for, before it is entered. What it answers is the same.
+ * every worker is taken, if others changed what it read in 8 tries, if it only tries, and if a chapter ends, or the
+ * report or the file is asked for, before it is entered. What it answers is the same.
  *
- * What the host owes is what C leaves to it: pointers are to what is there; a thread that calls has 64 KB of stack;
- * no call is made from a signal handler; none is made after `stm_service_free`; and none in a forked child, for another
+ * What the host owes is what C leaves to it: pointers are to what is there; a thread that calls has 64 KB of stack; no
+ * call is made from a signal handler; none is made after `stm_service_free`; and none in a forked child, for another
  * thread may have held the lock, and no child has that thread. There `stm_service_close` and `stm_service_free` do
- * nothing, so a child can let go what it has of its parent; what it wants to call it opens itself. Else all calls may be
- * made by any thread at any time, and none is a point where a thread is cancelled. It is over pthreads: link with
+ * nothing, so a child can let go what it has of its parent; what it wants to call it opens itself. Else all calls may
+ * be made by any thread at any time, and none is a point where a thread is cancelled. It is over pthreads: link with
  * -pthread.
  *
  * A thread that has the lock makes the calls of those who ask too, mostly after up to 64 of its own in a row. A thread
  * that waits looks for some microseconds before it sleeps.
  *
  * Chapters begin by themselves: a call that finds the present one full ends it, and tells the host (`ended`), before it
- * has its own turn. Meanwhile others go on in the next chapter. Where that is full too they wait until the host has said
- * how it went; so does a call that only tries. The host is told one chapter at a time, in their order.
+ * has its own turn. Meanwhile others go on in the next chapter. Where that is full too they wait until the host has
+ * said how it went; so does a call that only tries. The host is told one chapter at a time, in their order.
  *
  * What a file says stays in memory until the process ends, once for each `stm_service_open`. */
 #ifndef STM_SERVICE_H
@@ -43,12 +43,12 @@ typedef struct stm_service_options {
     /* How many workers there are, at most 32; 0: 4. A thread takes one while it looks by `stm_service_observe`, or
      * evaluates a long transaction. */
     uint32_t observers;
-    /* Called with file and report of each chapter that ends, by the thread whose call has found it full, and with no lock
-     * held, so it may take long. It may make any call of the service but `stm_service_free`; one that would have to wait
-     * for itself answers STM_NO_ROOM. Not 0: the chapter was not kept. It is told again, with the same texts, by each call
-     * that finds the next chapter full too, until it is kept, and once by each `stm_service_close`: so who has written the
-     * chapter down and fails then is told it twice. NULL: none. The last chapter does not end: ask for its file and report
-     * when the service is closed. */
+    /* Called with file and report of each chapter that ends, by the thread whose call has found it full, and with no
+     * lock held, so it may take long. It may make any call of the service but `stm_service_free`; one that would have
+     * to wait for itself answers STM_NO_ROOM. Not 0: the chapter was not kept. It is told again, with the same texts,
+     * by each call that finds the next chapter full too, until it is kept, and once by each `stm_service_close`: so who
+     * has written the chapter down and fails then is told it twice. NULL: none. The last chapter does not end: ask for
+     * its file and report when the service is closed. */
     int (*ended)(void *own, const uint8_t *file, size_t file_length, const uint8_t *report, size_t report_length);
     void *own;
 } stm_service_options;
@@ -82,26 +82,26 @@ int64_t stm_service_parameters(const stm_service *service, uint32_t transaction)
  * number for each of its parameters, in their order, which the host leaves as they are until the call ends: `NULL, 0`
  * where it has none. The outcome is STM_DONE with what it returned, STM_THROWN with what it threw, STM_OVERFLOW,
  * STM_DIVIDE_BY_ZERO, STM_OUTSIDE, or STM_BROKEN with the condition's number; and the ticket of its task, the chapter
- * in which it was entered, the number of the entry there, and its place in the history of all that became of calls, also
- * where it waited. With any other answer it had no effect, and never will, and there is no ticket: STM_CLOSED; STM_MEMORY;
- * STM_UNKNOWN: no such transaction, or it has another number of parameters; STM_NO_ROOM: every task that a chapter has room
- * for waits, or `ended` failed and the next chapter is full too. */
+ * in which it was entered, the number of the entry there, and its place in the history of all that became of calls,
+ * also where it waited. With any other answer it had no effect, and never will, and there is no ticket: STM_CLOSED;
+ * STM_MEMORY; STM_UNKNOWN: no such transaction, or it has another number of parameters; STM_NO_ROOM: every task that a
+ * chapter has room for waits, or `ended` failed and the next chapter is full too. */
 stm_answer stm_atomically(stm_service *service, uint32_t transaction, const int64_t *arguments, size_t count);
 
-/* As `stm_atomically`, but where it retries the answer is STM_RETRIES, at once, and nothing was entered. It takes no room
- * then, so it may be asked again and again. */
+/* As `stm_atomically`, but where it retries the answer is STM_RETRIES, at once, and nothing was entered. It takes no
+ * room then, so it may be asked again and again. */
 stm_answer stm_try_atomically(stm_service *service, uint32_t transaction, const int64_t *arguments, size_t count);
 
 /* As `stm_atomically`, but a thread that has waited for so long goes on with STM_TIMED_OUT. It is looked at while the
- * transaction waits, and while the thread waits for a host that another thread tells a chapter; not while it waits for the
- * lock, nor while it tells the host itself: so a call may take longer. A long one whose time is up before it is entered is
- * given up; where it is evaluated just then, when that ends. With a time of 0 it tries. */
+ * transaction waits, and while the thread waits for a host that another thread tells a chapter; not while it waits for
+ * the lock, nor while it tells the host itself: so a call may take longer. A long one whose time is up before it is
+ * entered is given up; where it is evaluated just then, when that ends. With a time of 0 it tries. */
 stm_answer stm_atomically_within(stm_service *service, uint32_t transaction, const int64_t *arguments, size_t count,
                                  uint64_t nanoseconds);
 
 /* Who is asked, each 50 milliseconds, while a thread waits in a call that it has made, for a commit or for the host: it
- * waits no longer where `asked` has set `stopped`, which is 0 before, to another number. It is called by the thread, under
- * no lock. */
+ * waits no longer where `asked` has set `stopped`, which is 0 before, to another number. It is called by the thread,
+ * under no lock. */
 typedef struct stm_waiter {
     void (*asked)(void *own);
     void *own;
@@ -144,12 +144,12 @@ int32_t stm_service_report(stm_service *service, uint8_t *room, size_t room_leng
 int32_t stm_service_file(stm_service *service, uint8_t *room, size_t room_length, size_t *wanted);
 
 /* Each call that waits and each later one answers STM_CLOSED, and no transaction is entered any more: one that is
- * evaluated just then is given up. The calls from `stm_service_value` to `stm_service_file` go on. It comes back when no
- * other thread tells the host a chapter, and tells it once more what was not kept. */
+ * evaluated just then is given up. The calls from `stm_service_value` to `stm_service_file` go on. It comes back when
+ * no other thread tells the host a chapter, and tells it once more what was not kept. */
 void stm_service_close(stm_service *service);
 
-/* Closes it if it is not closed yet, waits until no thread is in a call, and lets it go. NULL is none. In a child of the
- * process that has opened it nothing is let go. */
+/* Closes it if it is not closed yet, waits until no thread is in a call, and lets it go. NULL is none. In a child of
+ * the process that has opened it nothing is let go. */
 void stm_service_free(stm_service *service);
 
 #ifdef __cplusplus

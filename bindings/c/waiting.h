@@ -1,5 +1,5 @@
-/* The calls of a service that wait, and those that are long: what the desk tells is handed to their threads. It is a part
- * of service.c. */
+/* The calls of a service that wait, and those that are long: what the desk tells is handed to their threads. It is a
+ * part of service.c. */
 #ifndef STM_WAITING_H
 #define STM_WAITING_H
 

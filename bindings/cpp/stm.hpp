@@ -239,9 +239,9 @@ inline answer<std::string> explore_to(std::string_view file, std::uint32_t state
 
 /// Is told file and report of each chapter that ends, one after another, by a thread whose call found the chapter full.
 /// No lock is held: others go on in the next chapter, and wait for it only where that is full too. It may make calls of
-/// the service; one that would have to wait for it answers `STM_NO_ROOM`. Where it answers false or throws it is told the
-/// chapter again: when the next one is full, and whenever the service is closed. The last chapter does not end: ask for its
-/// file and report once the service is closed.
+/// the service; one that would have to wait for it answers `STM_NO_ROOM`. Where it answers false or throws it is told
+/// the chapter again: when the next one is full, and whenever the service is closed. The last chapter does not end: ask
+/// for its file and report once the service is closed.
 using keeper = std::function<bool(std::string_view file, std::string_view report)>;
 
 /// How a service is opened.
@@ -375,9 +375,9 @@ public:
     answer<std::string> report() const { return text(stm_service_report); }
     answer<std::string> file() const { return text(stm_service_file); }
 
-    /// Every call that waits and every later one answers `STM_CLOSED`. What was entered stays. It waits until the keeper
-    /// has returned, and tells it once more what it did not keep. A service that goes out of scope is closed too; but in a
-    /// child of the process that has opened it nothing is closed or let go.
+    /// Every call that waits and every later one answers `STM_CLOSED`. What was entered stays. It waits until the
+    /// keeper has returned, and tells it once more what it did not keep. A service that goes out of scope is closed
+    /// too; but in a child of the process that has opened it nothing is closed or let go.
     void close() noexcept {
         if (held_) stm_service_close(held_->at);
     }

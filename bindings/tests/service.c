@@ -154,8 +154,8 @@ static int fails_first(void *own, const uint8_t *file, size_t file_length, const
     return failures-- > 0 ? 1 : 0;
 }
 
-/* What the host does not keep is told again, and nothing of it is lost. Meanwhile there is room for one chapter more, in
- * which the run of the file that waits has a place too. */
+/* What the host does not keep is told again, and nothing of it is lost. Meanwhile there is room for one chapter more,
+ * in which the run of the file that waits has a place too. */
 static void a_hook_that_fails(void) {
     struct judged judged = {{"\nentry "}, {0}, 0};
     stm_service_options options = {3, 0, 0, fails_first, &judged};
@@ -224,8 +224,8 @@ static void *waits_for_answer(void *told) {
     return NULL;
 }
 
-/* Of what was entered its ticket is told, its chapter, the number of its entry there, and its place in the history: also
- * of one that waited, and in the chapters after the first. What was not entered has none. */
+/* Of what was entered its ticket is told, its chapter, the number of its entry there, and its place in the history:
+ * also of one that waited, and in the chapters after the first. What was not entered has none. */
 static void where_each_was_entered(void) {
     enum { WAIT, GO, INC };
     stm_service_options options = {3, 0, 0, NULL, NULL};

@@ -1,6 +1,6 @@
 /* The end of a service: it waits for each thread that is in a call, also for one that only looks up a name, that asks
- * while another has the lock, or that tells the host a chapter or waits until another has; and in a child of its process
- * nothing is closed, nothing is let go, and nothing hangs. Prints `good`. */
+ * while another has the lock, or that tells the host a chapter or waits until another has; and in a child of its
+ * process nothing is closed, nothing is let go, and nothing hangs. Prints `good`. */
 #include "judging.h"
 
 #include <fcntl.h>

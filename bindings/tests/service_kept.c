@@ -1,5 +1,5 @@
-/* What the host of a service is told of chapters that end, with no lock held: while it takes long others go on, until the
- * next chapter is full too; it may call; and what it does not keep is told again. Prints `good`. */
+/* What the host of a service is told of chapters that end, with no lock held: while it takes long others go on, until
+ * the next chapter is full too; it may call; and what it does not keep is told again. Prints `good`. */
 #include "judging.h"
 
 #include <pthread.h>
@@ -240,8 +240,8 @@ static void *closes(void *own) {
     return NULL;
 }
 
-/* It is closed while the host is told: who waits for that is told so at once, and who closes waits; then what was not kept
- * is told once more. */
+/* It is closed while the host is told: who waits for that is told so at once, and who closes waits; then what was not
+ * kept is told once more. */
 static void closed_while_it_is_told(int failures) {
     struct host host = {.is_slow = true, .failures = failures};
     stm_service *s = full(&host, TEXT);

@@ -1,9 +1,9 @@
-/* Short lives of a service: 64 threads call, wait for one another, and wait no longer, while chapters end, are not kept and
- * are told again, until it is closed in the midst of it. Of each call that was answered an entry the kept reports have that
- * entry once, where the answer says; of the others they have none; and no two answers have the same place. Prints `good`.
+/* Short lives of a service: 64 threads call, wait for one another, and wait no longer, while chapters end, are not kept
+ * and are told again, until it is closed in the midst of it. Of each call that was answered an entry the kept reports
+ * have that entry once, where the answer says; of the others they have none; and no two answers have the same place.
+ * Prints `good`.
  *
- *     service_lives LIVES
- */
+ * service_lives LIVES */
 #include "service.h"
 #include "wants.h"
 

@@ -74,8 +74,8 @@ static void *hurries(void *own) {
     return NULL;
 }
 
-/* Each call whose time was up was given up, and each other one was entered: the journals have as many of both. Who waits for
- * the host has no task yet. */
+/* Each call whose time was up was given up, and each other one was entered: the journals have as many of both. Who
+ * waits for the host has no task yet. */
 static void late_while_woken(int threads, size_t room) {
     struct judged judged = {{" put returned ", " get returned ", "\nmemory "}, {0}, 0};
     stm_service_options options = {room, 0, 0, judges, &judged};

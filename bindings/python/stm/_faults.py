@@ -31,10 +31,10 @@ class NoEnd(Error, LookupError):
 
 
 class Fault(Error):
-    """A call on a service that returned nothing. `entry` is the number of its entry in its chapter, `chapter` the number
-    of that, from 0 on, `ticket` the number of its task, which no other call has, and `place` the place of the entry in
-    the history of all that became of calls, from 0 on. Where `entry` is 0 the call was not entered: it had no effect, and
-    never will; then `chapter` and `place` are 0 and `ticket` is -1."""
+    """A call on a service that returned nothing. `entry` is the number of its entry in its chapter, `chapter` the
+    number of that, from 0 on, `ticket` the number of its task, which no other call has, and `place` the place of the
+    entry in the history of all that became of calls, from 0 on. Where `entry` is 0 the call was not entered: it had no
+    effect, and never will; then `chapter` and `place` are 0 and `ticket` is -1."""
 
     def __init__(self, *told: object, ticket: int = -1, chapter: int = 0, entry: int = 0, place: int = 0) -> None:
         super().__init__(*told)

@@ -91,19 +91,19 @@ class Service:
 
     A call gives its transaction a number of 64 signed bits for each of its parameters: `atomically("pay", [3, 5, 20])`;
     with more or fewer, `WrongArguments`. A call that waits lets other threads go on. Where the main thread waits for
-    others' commits, or for `on_chapter`, what a signal's handler raises, as Ctrl-C does, comes within a twentieth of a second, and the call is
-    given up, if it has not been entered just then. A handler that raises nothing ends no wait. What a file says stays in
-    memory until the process ends.
+    others' commits, or for `on_chapter`, what a signal's handler raises, as Ctrl-C does, comes within a twentieth of a
+    second, and the call is given up, if it has not been entered just then. A handler that raises nothing ends no wait.
+    What a file says stays in memory until the process ends.
 
     `room`: how many tasks a chapter has room for beside those of the file; 0: as many as there can be. `checkpoint`: a
     journal of so many entries is followed by a checkpoint; 0: never. `observers`: how many workers there are, at most
     32; 0: 4; a thread takes one while it observes or evaluates a long transaction. `on_chapter` is called with file and
     report of each chapter that ends, one after another, by a thread whose call found the chapter full, and with no lock
-    held: others go on in the next chapter, and wait for it only where that is full too. It may make calls; one that would
-    have to wait for it raises `NoRoom`. Where it raises, the chapter is told it again: when the next chapter is full, by
-    each call that finds it so, which raises `NoRoom` from its error; and by `close`, once each time. Where an interrupt, a
-    `SystemExit` or a `MemoryError` stops it, that is raised by the call that it was called in, in place of what the call
-    answered. The last chapter does not end: ask for its file and report once the service is closed.
+    held: others go on in the next chapter, and wait for it only where that is full too. It may make calls; one that
+    would have to wait for it raises `NoRoom`. Where it raises, it is told the chapter again: when the next chapter is
+    full, by each call that finds it so, which raises `NoRoom` from its error; and by `close`, once each time. Where an
+    interrupt, a `SystemExit` or a `MemoryError` stops it, that is raised by the call that it was called in, in place of
+    what the call answered. The last chapter does not end: ask for its file and report once the service is closed.
     `Refused` where the file is refused, or there can't be so much room or so many observers.
 
     In a child that `os.fork` has made, a service of the parent is not called; to close it or to leave its `with` does
@@ -139,8 +139,8 @@ class Service:
     ) -> int:
         """Runs the transaction as one atomic step: what it returned; else a `Fault`. Where it retries the thread waits
         until a commit changed what it read, and it was entered; with a timeout, in seconds, at most so long, and then
-        `TimedOut`, also where it waits for another thread's `on_chapter`. A timeout of 0 is a try. The time in which the
-        thread calls `on_chapter` itself is not cut short."""
+        `TimedOut`, also where it waits for another thread's `on_chapter`. A timeout of 0 is a try. The time in which
+        the thread calls `on_chapter` itself is not cut short."""
         call = self._call(transaction, arguments)
         if not _asked.is_ready:
             _asked.be_ready()
@@ -201,8 +201,8 @@ class Service:
         return self._copied(library.stm_service_file)
 
     def close(self) -> None:
-        """Every call that waits and every later one raises `Closed`. What was entered stays. It waits until `on_chapter`
-        has returned, and calls it once more for a chapter that was not kept."""
+        """Every call that waits and every later one raises `Closed`. What was entered stays. It waits until
+        `on_chapter` has returned, and calls it once more for a chapter that was not kept."""
         self._asks(library.stm_service_close)
 
     def __enter__(self) -> Service:

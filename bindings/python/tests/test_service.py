@@ -84,7 +84,7 @@ class Calls(unittest.TestCase):
                 with self.assertRaises(fault) as raised:
                     service.atomically(name)
                 self.assertIsInstance(raised.exception, also)
-                at = (service.entered - 1, 0, service.entered)
+                at = (service.entered - 1, 0, service.entered, service.entered - 1)
                 self.assertEqual((raised.exception.args, entered_at(raised.exception)), ((told,), at))
                 with self.assertRaises(fault) as raised:
                     service.observe(name)

@@ -134,8 +134,8 @@ pub enum Fault {
     TimedOut,
     /// The service was closed.
     Closed,
-    /// All room is taken by calls that wait; or a chapter was not kept and the next one is full too: `Service::not_kept`
-    /// says why.
+    /// All room is taken by calls that wait; or a chapter was not kept and the next one is full too:
+    /// `Service::not_kept` says why.
     NoRoom,
     /// A growth was refused.
     Memory,

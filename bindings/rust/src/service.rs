@@ -64,8 +64,8 @@ impl ServiceOptions {
     /// in the next chapter, and wait for the closure only where that is full too. It may make calls of the service; one
     /// that would have to wait for the closure itself answers `NoRoom`. Where it fails or panics it is told the chapter
     /// again: when the next one is full, by each call that finds it so, which answers `NoRoom` where it fails then, and
-    /// whenever the service is closed. `Service::not_kept` says why it failed. The last chapter does not end: ask for its
-    /// file and report once the service is closed.
+    /// whenever the service is closed. `Service::not_kept` says why it failed. The last chapter does not end: ask for
+    /// its file and report once the service is closed.
     ///
     /// ```
     /// use std::sync::{Arc, Mutex};
@@ -228,9 +228,9 @@ impl Service {
         self.raw.file()
     }
 
-    /// Every call that waits and every later one answers `Closed`. What was entered stays. It waits until the closure of
-    /// `ServiceOptions::on_chapter` has returned, and calls it once more for a chapter that was not kept. A service that
-    /// is dropped is closed too; but in a child of the process that has opened it nothing is closed or dropped.
+    /// Every call that waits and every later one answers `Closed`. What was entered stays. It waits until the closure
+    /// of `ServiceOptions::on_chapter` has returned, and calls it once more for a chapter that was not kept. A service
+    /// that is dropped is closed too; but in a child of the process that has opened it nothing is closed or dropped.
     ///
     /// ```
     /// let service = stm::Service::open("(tx wait (retry) 0)")?;
