@@ -15,8 +15,8 @@ struct asked {
     /* One of `enum stm_way`. */
     uint32_t way;
     size_t count;
-    /* Where it lies while it waits, on its thread's stack. */
-    struct call *call;
+    /* Where it lies while it waits, as the desk is told. */
+    uint64_t whose;
     /* More than few lie where its thread has them. */
     union {
         int64_t given[FEW];
@@ -31,31 +31,38 @@ union seated {
     unsigned char room[CALL];
 };
 
-/* A call that waits, for its task or for the host, or whose task its thread evaluates. */
+/* A call that waits, for its task or in a line, or whose task its thread evaluates: on its thread's stack. */
 struct call {
-    /* Its task; -1: it waits until the host has said whether it kept a chapter. */
-    int64_t ticket;
     /* Of a long one: the job that its thread is to evaluate, if it is. */
     stm_job job;
     bool is_long, is_due;
+    /* Its task; -1: it waits in this line. */
+    int64_t ticket;
+    struct call **line;
     /* Whether its answer is there. */
     bool is_told;
     stm_answer answer;
     /* Whether its bell is to be rung, or was and its thread has not seen it yet. */
     bool is_owed;
-    /* The next one to ring, or to wait for the host. */
+    /* The next one to ring, or in its line. */
     struct call *next;
     struct bell bell;
 };
+
+/* Whose call it is, by a number: where it lies; and one more where no thread waits for it (started.h). In either place the
+ * job comes first. */
+static inline uint64_t whose_is(const void *call, bool is_started) { return (uint64_t)(uintptr_t)call | is_started; }
+static inline bool is_started(uint64_t whose) { return whose & 1; }
+static inline void *place_of(uint64_t whose) { return (void *)(uintptr_t)(whose & ~(uint64_t)1); }
 
 static inline const int64_t *arguments_of(const struct asked *asked) {
     return asked->count <= FEW ? asked->arguments.given : asked->arguments.elsewhere;
 }
 
 /* What a call asks for. Its arguments are there, or stay where they are until it was made. */
-static inline void ask_for(struct asked *asked, struct call *call, uint32_t way, uint32_t transaction,
+static inline void ask_for(struct asked *asked, uint64_t whose, uint32_t way, uint32_t transaction,
                            const int64_t *arguments, size_t count) {
-    *asked = (struct asked){transaction, way, count, call, {{0}}};
+    *asked = (struct asked){transaction, way, count, whose, {{0}}};
     if (count > FEW) asked->arguments.elsewhere = arguments;
     else for (size_t i = 0; i < count; i++) asked->arguments.given[i] = arguments[i];
 }

@@ -31,9 +31,20 @@ static int32_t tell_host(stm_service *s, stm_ended *ended) {
     int32_t code = copy(file, ended, stm_ended_file);
     if (code == STM_DONE) code = copy(report, ended, stm_ended_report);
     if (code != STM_DONE) return code;
+    /* What the host's own calls find meanwhile is told after it. */
+    bool was_doing = owed.is_doing;
+    owed.is_doing = true;
     int failed = s->options.ended(s->options.own, file->at, file->length, report->at, report->length);
+    owed.is_doing = was_doing;
     return failed ? STM_NO_ROOM : STM_DONE;
 }
+
+int stm_takes_chapters(void *own, const uint8_t *file, size_t file_length, const uint8_t *report, size_t report_length) {
+    (void)own, (void)file, (void)file_length, (void)report, (void)report_length;
+    return 1;
+}
+
+static bool takes_chapters(const stm_service *s) { return s->options.ended == stm_takes_chapters; }
 
 int stm_ask_keeper(void *own, const uint8_t *file, size_t file_length, const uint8_t *report, size_t report_length) {
     stm_keeper *keeper = own;
@@ -50,18 +61,17 @@ int stm_ask_keeper(void *own, const uint8_t *file, size_t file_length, const uin
 
 static bool is_teller(const stm_service *s) { return s->chapters.teller == &my_seat; }
 
-/* Those who wait for the host go on, and know by this code whether it kept the chapter. */
-static void wake_all(stm_service *s, int32_t code) {
-    for (struct call *call; (call = s->chapters.waiting);) {
-        s->chapters.waiting = call->next;
-        call->answer = bare(code);
-        call->is_told = true;
-        owe(&s->lock, call);
-    }
+/* The host takes the chapter that ended when it likes. */
+static int32_t offer(stm_service *s, stm_ended *ended) {
+    s->chapters.offered = *ended;
+    wake_first(s, &s->chapters.takers, STM_DONE);
+    return STM_DONE;
 }
 
-/* Tells the host a chapter that ended, and the desk what it says. */
+/* Tells the host a chapter that ended, and the desk what it says. Who waits for the host knows by this code whether it
+ * kept the chapter. */
 static int32_t tell(stm_service *s, stm_ended *ended) {
+    if (takes_chapters(s)) return offer(s, ended);
     s->chapters.teller = &my_seat;
     release(&s->lock);
     int32_t code = tell_host(s, ended);
@@ -70,24 +80,18 @@ static int32_t tell(stm_service *s, stm_ended *ended) {
     if (code == STM_DONE) stm_desk_kept(&s->desk, ended);
     else stm_desk_not_kept(&s->desk, ended);
     s->chapters.is_refused = code != STM_DONE;
-    wake_all(s, code);
+    wake_line(s, &s->chapters.waiting, code);
     return code;
 }
 
-/* Waits until another thread has told the host: what that says; STM_TIMED_OUT. */
+/* Waits until the host has said how it went: what it says; STM_TIMED_OUT. */
 static int32_t wait_for_host(stm_service *s, struct call *call, const struct timespec *until) {
-    begin_call(call, -1);
-    call->next = s->chapters.waiting;
-    s->chapters.waiting = call;
-    release(&s->lock);
-    wait_for(s, call, until);
-    take_lock(&s->lock);
-    return call->answer.code;
+    return wait_in(s, &s->chapters.waiting, call, until);
 }
 
 /* The chapter is full. It ends, or the one before that was not kept is told again: STM_DONE, ask again; else the code
  * of the call's answer. A call has the host asked once for what it does not keep, and the host's own call not at all.
- * */
+ * With no `call` the thread does not wait for the host. */
 static int32_t end_chapter(stm_service *s, struct call *call, const struct timespec *until, bool *is_refused) {
     stm_ended ended = {0};
     if (is_teller(s) || (*is_refused && s->chapters.is_refused)) return STM_NO_ROOM;
@@ -98,8 +102,10 @@ static int32_t end_chapter(stm_service *s, struct call *call, const struct times
     if (!is_told) return code;
     /* It may have ended all the same, and counts as not kept then. */
     if (code == STM_MEMORY && stm_desk_chapter(&s->desk) != chapter) s->chapters.is_refused = true;
+    if (code == STM_NOT_ENDED && !call) return STM_NO_ROOM;
     if (code == STM_DONE) code = tell(s, &ended);
     else if (code == STM_NOT_ENDED) code = wait_for_host(s, call, until);
+    else if (code == STM_MEMORY) wake_first(s, &s->chapters.takers, code);
     *is_refused = code == STM_NO_ROOM;
     return *is_refused ? STM_DONE : code;
 }
@@ -111,7 +117,8 @@ static void tell_last(stm_service *s) {
     while (s->chapters.teller && !is_teller(s)) wait_for_host(s, &call, NULL);
     if (s->chapters.teller) return;
     s->chapters.are_over = true;
-    if (s->chapters.is_refused && stm_desk_end_chapter(&s->desk, &ended) == STM_DONE) tell(s, &ended);
+    if (!s->chapters.is_refused || takes_chapters(s)) return;
+    if (stm_desk_end_chapter(&s->desk, &ended) == STM_DONE) tell(s, &ended);
 }
 
 #endif

@@ -2,19 +2,11 @@
 #ifndef STM_INSIDE_H
 #define STM_INSIDE_H
 
-#include "calls.h"
 #include "desk.h"
+#include "started.h"
 #include "workers.h"
 
 #include <sys/types.h>
-
-/* The memory of the library: heap.c, or the host's own. */
-struct block {
-    bool got;
-    void *at;
-};
-struct block rattle_alloc(size_t size, size_t align);
-void rattle_dealloc(void *old);
 
 /* A text, in a room that grows with it. */
 struct text {
@@ -32,6 +24,20 @@ struct chapters {
     struct call *waiting;
     /* What the host is told: only the teller has them. */
     struct text file, report;
+    /* Where the host takes them: the one that it can take; where the one lies that it has, until it has said how it went;
+     * and who waits for one. */
+    stm_ended offered;
+    const void *out;
+    struct call *takers;
+};
+
+/* The calls without a thread whose host asks what became of them. */
+struct told {
+    /* Those that ended, in their order. */
+    struct started *first, *last;
+    /* How many were begun and not taken yet; and who waits for one. */
+    size_t count;
+    struct call *takers;
 };
 
 struct stm_service {
@@ -42,6 +48,10 @@ struct stm_service {
     stm_desk desk;
     /* How many calls the desk has to tell something, and how many of them are long. */
     size_t waiting, long_ones;
+    /* Those of them that wait without a thread, by their tickets. */
+    struct table started;
+    struct told told;
+    bool is_closed;
     struct chapters chapters;
     struct workers workers;
     stm_program program;
@@ -54,7 +64,7 @@ struct stm_service {
 
 static inline void enter(stm_service *s) { __atomic_add_fetch(&s->inside, 1, __ATOMIC_RELAXED); }
 
-/* The last that a thread has to do with the service. */
+/* The last that a thread has to do with the service, but for what it owes. */
 static inline void leave(stm_service *s) { __atomic_sub_fetch(&s->inside, 1, __ATOMIC_RELEASE); }
 
 static void lock(stm_service *s) {
@@ -65,6 +75,7 @@ static void lock(stm_service *s) {
 static void unlock_and_leave(stm_service *s) {
     release(&s->lock);
     leave(s);
+    do_what_is_owed();
 }
 
 #endif

@@ -14,65 +14,37 @@
 #define _POSIX_C_SOURCE 200809L
 #endif
 #include "chapter_room.h"
-#include "chapters.h"
 #include "looks.h"
+#include "starting.h"
+#include "taking.h"
 
 #include <string.h>
 #include <unistd.h>
 
 /* ---- Calls ---- */
 
-/* Under the lock: nothing was entered. STM_CHAPTER_FULL is also that the host is to be asked again for what it did not
- * keep. */
-static stm_answer heed(stm_service *s, struct call *call, stm_answer answer) {
-    if (answer.code == STM_NO_ROOM && s->chapters.is_refused) answer.code = STM_CHAPTER_FULL;
-    if (!is_over(&answer) && answer.code != STM_CHAPTER_FULL) begin_wait(s, call, &answer);
-    return answer;
-}
-
-/* Under the lock: asks the desk, and hands on what it tells. */
-static inline stm_answer ask_desk(stm_service *s, const struct asked *asked) {
-    struct call *call = asked->call;
-    stm_answer answer = stm_desk_ask(&s->desk, asked->transaction, arguments_of(asked), asked->count, asked->way,
-                                     (uint64_t)(uintptr_t)call, &call->job);
-    if (answer.entry == 0) answer = heed(s, call, answer);
-    if (s->waiting > 0) hand_on(s);
-    return answer;
-}
-
 /* Under the lock: asks for a thread as it asks at its seat: whether that goes on at once. One that does not is in a
  * call until it leaves. */
 static bool make(void *service, void *place) {
     union seated *seated = place;
+    bool has_thread = !is_started(seated->asked.whose);
     seated->answer = ask_desk(service, &seated->asked);
-    bool goes_on = is_over(&seated->answer);
+    bool goes_on = has_thread ? is_over(&seated->answer) : !is_full(&seated->answer);
     if (!goes_on) enter(service);
     return goes_on;
-}
-
-/* Asks where the chapter was found full, until one is not. */
-static stm_answer ask_again(stm_service *s, const struct asked *asked, const struct timespec *until) {
-    bool is_refused = false;
-    take_lock(&s->lock);
-    stm_answer answer = ask_desk(s, asked);
-    while (answer.code == STM_CHAPTER_FULL) {
-        int32_t code = end_chapter(s, asked->call, until, &is_refused);
-        answer = code == STM_DONE ? ask_desk(s, asked) : bare(code);
-    }
-    release(&s->lock);
-    return answer;
 }
 
 /* What is left to do for a call that has no answer yet. */
 __attribute__((noinline)) static stm_answer finish(stm_service *s, const struct asked *asked, stm_answer answer,
                                                    const struct timespec *until) {
+    struct call *call = place_of(asked->whose);
     int before;
     pthread_setcancelstate(PTHREAD_CANCEL_DISABLE, &before);
-    if (answer.code == STM_CHAPTER_FULL) answer = ask_again(s, asked, until);
+    if (is_full(&answer)) answer = ask_again(s, asked, call, until);
     if (!is_over(&answer)) {
-        if (answer.code == STM_RUNNING) run_long(s, asked->call, until);
-        else wait_for(s, asked->call, until);
-        answer = asked->call->answer;
+        if (answer.code == STM_RUNNING) run_long(s, call, until);
+        else wait_for(s, call, until);
+        answer = call->answer;
     }
     leave(s);
     pthread_setcancelstate(before, &before);
@@ -84,12 +56,15 @@ static inline stm_answer run(stm_service *s, uint32_t way, uint32_t transaction,
                              const struct timespec *until) {
     struct call call;
     union seated seated;
-    ask_for(&seated.asked, &call, way, transaction, arguments, count);
+    ask_for(&seated.asked, whose_is(&call, false), way, transaction, arguments, count);
     make_call(&s->lock, &seated);
-    if (is_over(&seated.answer)) return seated.answer;
-    struct asked asked;
-    ask_for(&asked, &call, way, transaction, arguments, count);
-    return finish(s, &asked, seated.answer, until);
+    if (!is_over(&seated.answer)) {
+        struct asked asked;
+        ask_for(&asked, whose_is(&call, false), way, transaction, arguments, count);
+        seated.answer = finish(s, &asked, seated.answer, until);
+    }
+    do_what_is_owed();
+    return seated.answer;
 }
 
 stm_answer stm_atomically(stm_service *s, uint32_t transaction, const int64_t *arguments, size_t count) {
@@ -140,6 +115,7 @@ stm_answer stm_service_observe(stm_service *s, uint32_t transaction, const int64
         give_back(&s->workers, worker);
     }
     leave(s);
+    do_what_is_owed();
     return answer;
 }
 
@@ -171,6 +147,8 @@ static int32_t open_desk(stm_service *s, const uint8_t *file, size_t file_length
 /* What a service holds, or one that could not be opened. */
 static void let_go(stm_service *s) {
     free_workers(&s->workers);
+    free_started(s);
+    stm_ended_free(&s->chapters.offered);
     stm_desk_free(&s->desk);
     stm_program_free(&s->program);
     free_texts(&s->chapters);
@@ -189,6 +167,7 @@ int32_t stm_service_open(const uint8_t *file, size_t file_length, const stm_serv
     s->block = block.at;
     s->process = getpid();
     open_lock(&s->lock, make, ring_all, s);
+    open_table(&s->started);
     s->workers.lock = (pthread_mutex_t)PTHREAD_MUTEX_INITIALIZER;
     s->workers.changed = (pthread_cond_t)PTHREAD_COND_INITIALIZER;
     if (options) s->options = *options;
@@ -210,8 +189,11 @@ static void close_service(stm_service *s, bool again) {
     pthread_setcancelstate(PTHREAD_CANCEL_DISABLE, &before);
     lock(s);
     stm_desk_close(&s->desk);
+    s->is_closed = true;
     hand_on(s);
-    wake_all(s, STM_DONE);
+    wake_line(s, &s->chapters.waiting, STM_DONE);
+    wake_line(s, &s->told.takers, STM_DONE);
+    wake_line(s, &s->chapters.takers, STM_DONE);
     close_workers(&s->workers);
     if (again || !s->chapters.are_over) tell_last(s);
     unlock_and_leave(s);
@@ -227,6 +209,7 @@ static bool is_unused(stm_service *s) {
     take_lock(&s->lock);
     bool unused = is_alone(&s->lock) && __atomic_load_n(&s->inside, __ATOMIC_ACQUIRE) == 0;
     release(&s->lock);
+    do_what_is_owed();
     return unused;
 }
 

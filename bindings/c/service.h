@@ -26,6 +26,7 @@
 #ifndef STM_SERVICE_H
 #define STM_SERVICE_H
 
+#include "desk.h"
 #include "stm.h"
 
 #ifdef __cplusplus
@@ -52,6 +53,10 @@ typedef struct stm_service_options {
     int (*ended)(void *own, const uint8_t *file, size_t file_length, const uint8_t *report, size_t report_length);
     void *own;
 } stm_service_options;
+
+/* As `ended`, where the host takes the chapters that ended (`stm_told_chapter`): nobody calls it. */
+int stm_takes_chapters(void *own, const uint8_t *file, size_t file_length, const uint8_t *report,
+                       size_t report_length);
 
 /* For a host in a language whose callback can be stopped before its first line, so that what it answers is not known: a
  * keeper of chapters, with `stm_ask_keeper` as `ended` and the keeper as `own`. It is asked with the texts here, and the
@@ -113,6 +118,59 @@ typedef struct stm_waiter {
  * nobody is. */
 int32_t stm_wait_by(stm_waiter *waiter);
 
+/* ---- Calls without a thread ----
+ *
+ * A call that is started waits, and no thread with it; so there may be as many as a chapter has room for. While one waits
+ * it takes 200 bytes at most beside its task's place. What becomes of it is found by a thread that makes a call of the
+ * service, whichever that is, and this thread tells it, with no lock held, before it sleeps and before it returns from
+ * its own call; so maybe before `stm_start` returns. A long transaction that was started, or whose task runs again, is
+ * evaluated by the thread that finds it so, then too: beside what others commit, and after 8 tries under the lock. */
+
+/* Who is called when a call has ended, with its `own` and its answer: the outcome, as of `stm_atomically`; or STM_CLOSED or
+ * STM_MEMORY with the ticket, and nothing was entered. It is called once for each call, and may make any call of the service
+ * but `stm_service_free`, also start others, in a stack that does not grow: what its thread finds meanwhile is told by
+ * that thread when it has returned, one after the other. So one that waits lets those behind it wait, and one that wants
+ * what its thread has, as a mutex of the host's, never gets it. It returns, and is not left by an exception or a
+ * `longjmp`. The thread is not cancelled meanwhile. */
+typedef void stm_done(void *own, stm_answer answer);
+
+/* Starts the call: its ticket, and `done` is called when it has ended; `done` NULL: `stm_told` tells it. Else the code says
+ * why not, and nothing follows: STM_CLOSED, STM_MEMORY, STM_UNKNOWN, as of `stm_atomically`; STM_NO_ROOM: so too, or the
+ * host takes the chapters and has a whole one to keep first, for this call waits for no other thread that keeps it. */
+int64_t stm_start(stm_service *service, uint32_t transaction, const int64_t *arguments, size_t count, stm_done *done,
+                  void *own);
+
+/* The started call with the ticket is given up: STM_DONE, and nothing is told of it. STM_TOO_LATE: what became of it was
+ * told, or will be; or none was started with this ticket. */
+int32_t stm_cancel(stm_service *service, int64_t ticket);
+
+/* What became of a call that was started without `done`: its `own`, and the answer that `done` would have. */
+typedef struct stm_call_told {
+    void *own;
+    stm_answer answer;
+} stm_call_told;
+
+/* Waits at most so long until there is such a call, and tells as many as there are and the room is for, each once: how
+ * many; 0: there was none. STM_CLOSED: the service is closed, and each was told. */
+int64_t stm_told(stm_service *service, stm_call_told *room, size_t count, uint64_t nanoseconds);
+
+/* ---- Chapters that the host takes ----
+ *
+ * With `stm_takes_chapters` as `ended`. A chapter that is full ends, and the next one begins; when that is full too, calls
+ * wait until the host has said how it went with the one before, and are answered STM_NO_ROOM if it was not kept. The
+ * last chapter does not end. */
+
+/* Waits at most so long until a chapter ended: STM_DONE, and `chapter`, which was empty, has it: write down its number,
+ * file and report (`stm_ended_chapter`, `stm_ended_file`, `stm_ended_report`), which takes no lock, and then say how it
+ * went. STM_TIMED_OUT: there was none; STM_CLOSED: there is none, and the service is closed; STM_MEMORY: ask again;
+ * STM_FULL; STM_NOT_ENDED: the host does not take chapters. One chapter at a time is at the host. */
+int32_t stm_told_chapter(stm_service *service, stm_ended *chapter, uint64_t nanoseconds);
+
+/* The chapter was kept; or it was not, and is told again: STM_DONE, and `chapter` is empty. STM_NOT_ENDED: it is not this
+ * service's; STM_EMPTY. */
+int32_t stm_chapter_kept(stm_service *service, stm_ended *chapter);
+int32_t stm_chapter_not_kept(stm_service *service, stm_ended *chapter);
+
 /* How the call would end on one state, beside what others commit: an outcome with no task and no entry, STM_RETRIES,
  * STM_CLOSED, STM_MEMORY or STM_UNKNOWN. */
 stm_answer stm_service_observe(stm_service *service, uint32_t transaction, const int64_t *arguments, size_t count);
@@ -148,8 +206,8 @@ int32_t stm_service_file(stm_service *service, uint8_t *room, size_t room_length
  * no other thread tells the host a chapter, and tells it once more what was not kept. */
 void stm_service_close(stm_service *service);
 
-/* Closes it if it is not closed yet, waits until no thread is in a call, and lets it go. NULL is none. In a child of
- * the process that has opened it nothing is let go. */
+/* Closes it if it is not closed yet, waits until no thread is in a call or has an answer to tell, and lets it go. NULL
+ * is none. In a child of the process that has opened it nothing is let go. */
 void stm_service_free(stm_service *service);
 
 #ifdef __cplusplus

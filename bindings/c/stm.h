@@ -114,7 +114,9 @@ enum stm_code {
     STM_SCHEDULE_NAME = -24,
     STM_SCHEDULE_LIMIT = -25,
     /* `take`: no task is ready. `claim`: the task is not. Nothing changed. */
-    STM_NOT_READY = -26
+    STM_NOT_READY = -26,
+    /* Of a service: what became of the call was told, or will be. */
+    STM_TOO_LATE = -27
 };
 
 /* What became of a task: its ticket; a code; what was returned (STM_DONE), what was thrown (STM_THROWN) or the number of a

@@ -3,7 +3,7 @@
 #ifndef STM_WAITING_H
 #define STM_WAITING_H
 
-#include "inside.h"
+#include "ending.h"
 
 /* How often a transaction is observed or tried beside the commits, before it is evaluated under the lock. */
 enum { TRIES = 8 };
@@ -26,37 +26,39 @@ static void end(stm_service *s, struct call *call, stm_answer answer) {
     s->long_ones -= call->is_long;
 }
 
-/* Hands on what the desk tells: to each thread its answer, or the job that it is to evaluate. */
+/* Hands on what the desk tells: to each thread its answer, or the job that it is to evaluate; and of calls without a
+ * thread to this one. */
 static void hand_on(stm_service *s) {
     while (s->waiting > 0) {
         stm_desk_told told = stm_desk_next_told(&s->desk);
-        struct call *call = (struct call *)(uintptr_t)told.whose;
+        struct call *call = place_of(told.whose);
         if (!call) break;
+        if (is_started(told.whose)) {
+            end_started(s, place_of(told.whose), told.answer);
+            continue;
+        }
         end(s, call, told.answer);
         owe(&s->lock, call);
     }
     while (s->long_ones > 0) {
         stm_desk_due due = stm_desk_next_due(&s->desk);
-        struct call *call = (struct call *)(uintptr_t)due.whose;
+        struct call *call = place_of(due.whose);
         if (!call) break;
+        if (is_started(due.whose)) {
+            begin_due(s, place_of(due.whose), &due.job);
+            continue;
+        }
         call->job = due.job;
         call->is_due = true;
         owe(&s->lock, call);
     }
 }
 
-/* The call waits for the host no longer. */
-static void leave_host(struct chapters *c, struct call *call) {
-    struct call **at = &c->waiting;
-    while (*at != call) at = &(*at)->next;
-    *at = call->next;
-}
-
 /* Its thread gives the call up, but where its answer is there. */
 static void give_up(stm_service *s, struct call *call, int32_t code) {
     if (call->is_told) return;
     if (call->ticket < 0) {
-        leave_host(&s->chapters, call);
+        leave_line(call);
         call->answer = bare(code);
     } else if (stm_desk_leave(&s->desk, call->ticket) == STM_DONE) {
         end(s, call, bare(code));
@@ -67,12 +69,25 @@ static void give_up(stm_service *s, struct call *call, int32_t code) {
 
 /* Waits for the call's answer. Where the thread waits no longer the call is given up. */
 static void wait_for(stm_service *s, struct call *call, const struct timespec *until) {
+    do_what_is_owed();
     if (is_rung(&call->bell, until)) return;
     take_lock(&s->lock);
     give_up(s, call, STM_TIMED_OUT);
     bool owed = call->is_owed;
     release(&s->lock);
     if (owed) is_rung_by(&call->bell, NULL);
+}
+
+/* Waits in the line, and has the lock before and after: the code that who waits there is woken with; STM_TIMED_OUT. */
+static int32_t wait_in(stm_service *s, struct call **line, struct call *call, const struct timespec *until) {
+    begin_call(call, -1);
+    call->line = line;
+    call->next = *line;
+    *line = call;
+    release(&s->lock);
+    wait_for(s, call, until);
+    take_lock(&s->lock);
+    return call->answer.code;
 }
 
 /* What became of the job, which is evaluated by the worker beside what others commit; or under the lock, where none is
@@ -109,6 +124,7 @@ static void run_long(stm_service *s, struct call *call, const struct timespec *u
             continue;
         }
         release(&s->lock);
+        do_what_is_owed();
         bool rung = is_rung(&call->bell, until);
         take_lock(&s->lock);
         if (rung) call->is_owed = false;

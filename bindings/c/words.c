@@ -58,6 +58,7 @@ const char *stm_word(int32_t code) {
     case STM_CLOSED: return "closed";
     case STM_TIMED_OUT: return "timed out";
     case STM_NOT_READY: return "not ready";
+    case STM_TOO_LATE: return "too late";
     default: return text_word(code);
     }
 }
