@@ -9,7 +9,7 @@ HERE = os.path.dirname(os.path.abspath(__file__))
 WARN = ["-Wall", "-Wextra", "-Wpedantic", "-Wconversion", "-Wshadow", "-Werror"]
 COMPILERS = ("g++", "clang++")
 # The tests of stm.hpp.
-TESTS = ("service", "arguments", "tables")
+TESTS = ("service", "started", "arguments", "tables")
 # A host that looks at no answer: each of its statements, but for the first one, is warned of.
 CARELESS = b"""#include "stm.hpp"
 void careless(stm::service &bank) {
@@ -18,6 +18,8 @@ void careless(stm::service &bank) {
     bank.try_atomically(0);
     bank.atomically_within(std::chrono::seconds(1), "pay");
     bank.observe("pay");
+    bank.start("pay", {5}, [](stm::outcome) {});
+    bank.future("pay", {5});
     bank.cells(0);
     bank.report();
     stm::service::open("");

@@ -22,6 +22,7 @@
 #include <cstdint>
 #include <cstdlib>
 #include <functional>
+#include <future>
 #include <initializer_list>
 #include <limits>
 #include <memory>
@@ -29,6 +30,7 @@
 #include <stdexcept>
 #include <string>
 #include <string_view>
+#include <type_traits>
 #include <utility>
 #include <vector>
 
@@ -149,7 +151,7 @@ public:
     std::uint64_t entry() const noexcept { return told_.entry; }
     /// The number of that chapter, from 0 on; 0 where it was not entered.
     std::uint64_t chapter() const noexcept { return told_.chapter; }
-    /// The number of its task, which no other call has; nothing where it was not entered.
+    /// The number of its task, which no other call has; nothing where it was not entered, nor started (`start`).
     std::optional<std::uint64_t> ticket() const noexcept {
         return told_.ticket < 0 ? std::nullopt : std::optional<std::uint64_t>(static_cast<std::uint64_t>(told_.ticket));
     }
@@ -261,6 +263,31 @@ struct present {
     std::uint64_t version;
 };
 
+/// A call that `service::start` has started. It may be copied, and is used no longer than its service.
+class started {
+public:
+    /// The number of its task, which no other call has.
+    std::uint64_t ticket() const noexcept { return static_cast<std::uint64_t>(ticket_); }
+
+    /// Gives the call up: whether it was, and then nothing is told of it; else what became of it was told, or will be.
+    bool cancel() const noexcept {
+        bool given_up = stm_cancel(at_, ticket_) == STM_DONE;
+        if (given_up) drop_(own_);
+        return given_up;
+    }
+
+private:
+    friend class service;
+    started(stm_service *at, std::int64_t ticket, void *own, void (*drop)(void *)) noexcept
+        : at_(at), ticket_(ticket), own_(own), drop_(drop) {}
+
+    stm_service *at_;
+    std::int64_t ticket_;
+    /// Who is told, which is let go with the call.
+    void *own_;
+    void (*drop_)(void *);
+};
+
 /// A store with its lock and its waiting threads. Any thread may make any call at any time, but for moving it and
 /// letting it go. An empty one, which was moved from, answers `STM_EMPTY`, 0 or nothing.
 class service {
@@ -320,6 +347,38 @@ public:
     outcome atomically_within(std::chrono::duration<Rep, Period> time, std::string_view name,
                               arguments given = {}) noexcept {
         return by_name(name, [&](std::uint32_t number) { return atomically_within(time, number, given); });
+    }
+
+    /// Starts the call, and no thread waits for it: `done`, which takes an `outcome`, is called with how it ended, once,
+    /// by a thread that is in a call of the service, maybe before this one returns. It may make any call of the service,
+    /// and start others; what its thread finds meanwhile is told after it. It throws nothing: that ends the process. There
+    /// is no value where nothing was started and nothing follows: `STM_CLOSED`, `STM_UNKNOWN`, `STM_NO_ROOM`,
+    /// `STM_MEMORY`. Those that wait when the service goes out of scope are told `STM_CLOSED` before it is gone.
+    template <class Done> answer<started> start(std::uint32_t transaction, arguments given, Done done) {
+        if (!held_) return answer<started>::none(STM_EMPTY);
+        stm_service *at = held_->at;
+        auto own = std::make_unique<Done>(std::move(done));
+        std::int64_t ticket = stm_start(at, transaction, given.data(), given.size(), told<Done>, own.get());
+        if (ticket < 0) return answer<started>::none(static_cast<std::int32_t>(ticket));
+        return answer<started>(started(at, ticket, own.release(), drop<Done>));
+    }
+    template <class Done> answer<started> start(std::string_view name, arguments given, Done done) {
+        auto number = transaction(name);
+        if (!number) return answer<started>::none(held_ ? STM_UNKNOWN : STM_EMPTY);
+        return start(*number, given, std::move(done));
+    }
+
+    /// Starts the call, whose outcome the future has once it has ended: also where nothing was started.
+    [[nodiscard]] std::future<outcome> future(std::uint32_t transaction, arguments given = {}) {
+        std::promise<outcome> promise;
+        auto there = promise.get_future();
+        auto keeps = [promise = std::move(promise)](outcome how) mutable { promise.set_value(how); };
+        auto begun = start(transaction, given, std::move(keeps));
+        return begun ? std::move(there) : ready(begun.code());
+    }
+    [[nodiscard]] std::future<outcome> future(std::string_view name, arguments given = {}) {
+        auto number = transaction(name);
+        return number ? future(*number, given) : ready(held_ ? STM_UNKNOWN : STM_EMPTY);
     }
 
     /// How the call would end on one state, beside the commits; nothing is entered.
@@ -407,6 +466,21 @@ private:
     template <class Call> outcome by_name(std::string_view name, Call call) const noexcept {
         auto number = transaction(name);
         return number ? call(*number) : outcome(none(held_ ? STM_UNKNOWN : STM_EMPTY));
+    }
+
+    static std::future<outcome> ready(std::int32_t code) {
+        std::promise<outcome> promise;
+        promise.set_value(outcome(none(code)));
+        return promise.get_future();
+    }
+
+    template <class Done> static void drop(void *own) { delete static_cast<Done *>(own); }
+
+    /// Who is told is there until then.
+    template <class Done> static void told(void *own, stm_answer how) noexcept {
+        static_assert(std::is_invocable_v<Done &, outcome>, "it takes an outcome");
+        std::unique_ptr<Done> done(static_cast<Done *>(own));
+        (*done)(outcome(how));
     }
 
     template <class Call> answer<std::string> text(Call call) const {

@@ -24,6 +24,7 @@
 #![deny(unsafe_code)]
 
 mod answers;
+mod call;
 mod declare;
 mod error;
 mod raw;
@@ -31,6 +32,7 @@ mod service;
 mod store;
 
 pub use answers::{Answer, Arguments, End, Entered, Job, Outcome, Standing, Ticket, Way};
+pub use call::Call;
 pub use declare::{
     and, div, eq, int, le, lt, not, or, or_else, param, rem, repeat, retry, seq, set, skip, sum, throw, var,
     when, Cond, Declare, Expr, Param, Stmt, Table, Tx, Var,

@@ -3,9 +3,11 @@
 
 #![allow(unsafe_code)]
 
+mod calls;
 mod code;
 mod service;
 
+pub use calls::RawCall;
 pub use service::{Keep, RawService};
 
 use crate::answers::{Answer, Arguments, End, Entered, Job, Outcome, Standing, Ticket, Way};

@@ -1,5 +1,6 @@
 //! Calls from any thread.
 
+use crate::call::Call;
 use crate::error::{Error, Fault, NotKept};
 use crate::raw::{Keep, RawService};
 use std::fmt::Debug;
@@ -147,6 +148,29 @@ impl Service {
     ) -> Result<i64, Fault> {
         let nanoseconds = u64::try_from(time.as_nanos()).unwrap_or(u64::MAX);
         self.raw.atomically_within(transaction, arguments, nanoseconds)
+    }
+
+    /// The call as a future of what `atomically` answers, over any executor: no thread waits for it. It is made when it
+    /// is polled first, and given up where it is dropped before it has ended.
+    ///
+    /// ```
+    /// use std::future::Future;
+    /// use std::pin::pin;
+    /// use std::task::{Context, Poll, Waker};
+    ///
+    /// let bank = stm::Service::open(
+    ///     "(stm 3) (var here 100) (tx pay (k) (if (lt here k) (retry) (set here (sub here k))) here)
+    ///      (tx get (k) (set here (add here k)) here)",
+    /// )?;
+    /// let mut context = Context::from_waker(Waker::noop());
+    /// let mut pays = pin!(bank.call(0, &[160]));
+    /// assert_eq!(pays.as_mut().poll(&mut context), Poll::Pending);
+    /// assert_eq!(bank.atomically(1, &[100]), Ok(200));
+    /// assert_eq!(pays.as_mut().poll(&mut context), Poll::Ready(Ok(40)));
+    /// # Ok::<(), stm::Error>(())
+    /// ```
+    pub fn call(&self, transaction: u32, arguments: &[i64]) -> Call<'_> {
+        Call::new(&self.raw, transaction, arguments)
     }
 
     /// How the transaction would end with these arguments on one state, beside the commits; nothing is entered.

@@ -84,12 +84,12 @@ extern "C" {
 }
 
 /// No panic is known to leave a lock poisoned: each is caught before.
-fn locked<T>(mutex: &Mutex<T>) -> MutexGuard<'_, T> {
+pub(super) fn locked<T>(mutex: &Mutex<T>) -> MutexGuard<'_, T> {
     mutex.lock().unwrap_or_else(PoisonError::into_inner)
 }
 
 /// What a panic says, and nothing more of it is left: where its payload panics when it is dropped, that one stays.
-fn message_of(payload: Box<dyn Any + Send>) -> String {
+pub(super) fn message_of(payload: Box<dyn Any + Send>) -> String {
     let text = payload.downcast_ref::<String>().cloned();
     let text = text.or_else(|| payload.downcast_ref::<&str>().map(|text| text.to_string()));
     if let Err(another) = catch_unwind(AssertUnwindSafe(|| drop(payload))) {
@@ -139,7 +139,7 @@ unsafe impl Send for RawService {}
 unsafe impl Sync for RawService {}
 
 /// What a call returned, or why it did not; where the library makes no such call, this is why.
-fn returned(told: &Told, unknown: impl FnOnce() -> Fault) -> Result<i64, Fault> {
+pub(super) fn returned(told: &Told, unknown: impl FnOnce() -> Fault) -> Result<i64, Fault> {
     match outcome(told) {
         Some(Outcome::Returned(value)) => return Ok(value),
         Some(Outcome::Thrown(value)) => return Err(Fault::Thrown(value)),
@@ -183,6 +183,15 @@ impl RawService {
         }
     }
 
+    pub(super) fn at(&self) -> *mut c_void {
+        self.at
+    }
+
+    /// Whether this process is a child of the one that has opened it.
+    pub(super) fn is_of_another_process(&self) -> bool {
+        self.process != std::process::id()
+    }
+
     pub fn transaction(&self, name: &str) -> Option<u32> {
         // SAFETY: a slice that is borrowed for the call.
         u32::try_from(unsafe { stm_service_transaction(self.at, name.as_ptr(), name.len()) }).ok()
@@ -194,9 +203,9 @@ impl RawService {
     }
 
     /// Why the library makes no such call.
-    fn refusal(&self, transaction: u32, arguments: &[i64]) -> Fault {
+    pub fn refusal(&self, transaction: u32, given: usize) -> Fault {
         match self.parameters(transaction) {
-            Some(parameters) => Fault::WrongArguments { transaction, parameters, given: arguments.len() },
+            Some(parameters) => Fault::WrongArguments { transaction, parameters, given },
             None => Fault::UnknownTransaction(transaction),
         }
     }
@@ -205,13 +214,13 @@ impl RawService {
         // SAFETY: from any thread; a slice that is borrowed for the call. The library tests the number, and how many
         // arguments there are.
         let told = unsafe { stm_atomically(self.at, transaction, arguments.as_ptr(), arguments.len()) };
-        returned(&told, || self.refusal(transaction, arguments))
+        returned(&told, || self.refusal(transaction, arguments.len()))
     }
 
     pub fn try_atomically(&self, transaction: u32, arguments: &[i64]) -> Result<i64, Fault> {
         // SAFETY: as `atomically`.
         let told = unsafe { stm_try_atomically(self.at, transaction, arguments.as_ptr(), arguments.len()) };
-        returned(&told, || self.refusal(transaction, arguments))
+        returned(&told, || self.refusal(transaction, arguments.len()))
     }
 
     pub fn atomically_within(
@@ -223,13 +232,13 @@ impl RawService {
         let (at, count) = (arguments.as_ptr(), arguments.len());
         // SAFETY: as `atomically`.
         let told = unsafe { stm_atomically_within(self.at, transaction, at, count, nanoseconds) };
-        returned(&told, || self.refusal(transaction, arguments))
+        returned(&told, || self.refusal(transaction, arguments.len()))
     }
 
     pub fn observe(&self, transaction: u32, arguments: &[i64]) -> Result<i64, Fault> {
         // SAFETY: as `atomically`.
         let told = unsafe { stm_service_observe(self.at, transaction, arguments.as_ptr(), arguments.len()) };
-        returned(&told, || self.refusal(transaction, arguments))
+        returned(&told, || self.refusal(transaction, arguments.len()))
     }
 
     pub fn value(&self, name: &str) -> Option<(i64, u64)> {
@@ -301,7 +310,7 @@ impl RawService {
 impl Drop for RawService {
     fn drop(&mut self) {
         // In a child of the process another thread of the parent may have been in the closure: both stay as they are.
-        if self.process != std::process::id() {
+        if self.is_of_another_process() {
             return;
         }
         // SAFETY: nobody borrows it, so no thread is in a call. After it the closure is called no more.
