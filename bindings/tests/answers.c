@@ -59,6 +59,7 @@ static const struct {
     {-24, "schedule: name"},
     {-25, "schedule: limit"},
     {-26, "not ready"},
+    {-27, "too late"},
 };
 
 /* All codes from -200 to 200: those of the table have its word, and no other has one. */
