@@ -44,10 +44,13 @@ get: the transaction retries
 Good
 put: returned 1, entry 1
 """
+ORDERS = "10000 orders wait\n10000 are served: 30000 pieces\ntaken back"
+ORDERS_IN_C, ORDERS_IN_CPP = f"{ORDERS}: done\nclosed: 1\n", f"{ORDERS}\nclosed\n"
 IN_RUST = {
     "bank": BANK,
     "calls": CALLS,
     "chapters": "1000 minutes\n5 good\n",
+    "orders": "10000 orders wait\nall are served, and paid 90000\none is taken back: true\n",
     "tellers": "Ok(80)\nErr(Thrown(90))\n",
     "transfers": TRANSFERS,
     "workers": "4000 transfers, each paid or refused\nGood\n",
@@ -90,6 +93,7 @@ def cpp(case, run, work, library):
         case(f"{word} warns of answers that are not looked at", told.count("error:") == CARELESS.count(b";") - 1, told)
     for word in there[:1]:
         prints("bounded_queue.cpp", QUEUE, built(word, "examples/bounded_queue.cpp", "queue"))
+        prints("orders.cpp", ORDERS_IN_CPP, built(word, "examples/orders.cpp", "orders"))
         prints("transfers.cpp", TRANSFERS, built(word, "examples/transfers.cpp", "transfers"))
         prints("simulation.cpp", simulated(MINUTES), built(word, "examples/simulation.cpp", "simulation"), MINUTES)
     for word, (name, flag) in ((word, one) for word in there[:1] for one in (("address", "address,undefined"), ("thread", "thread"))):

@@ -34,10 +34,12 @@ IN_C = [
     ("tests/tables.c", [], GOOD),
     ("examples/tellers.c", [], languages.TELLERS),
     ("examples/transfers.c", [], languages.TRANSFERS),
+    ("examples/orders.c", [], languages.ORDERS_IN_C),
     ("examples/jobs.c", ["4"], languages.JOBS),
 ]
 IN_CPP = [(f"tests/{name}.cpp", GOOD) for name in languages.TESTS]
-IN_CPP += [("examples/bounded_queue.cpp", languages.QUEUE), ("examples/transfers.cpp", languages.TRANSFERS)]
+IN_CPP += [("examples/bounded_queue.cpp", languages.QUEUE), ("examples/orders.cpp", languages.ORDERS_IN_CPP)]
+IN_CPP += [("examples/transfers.cpp", languages.TRANSFERS)]
 
 
 def compiled(case, run, work, library, word, source, *flags):
