@@ -45,6 +45,7 @@ Good
 put: returned 1, entry 1
 """
 ORDERS = "10000 orders wait\n10000 are served: 30000 pieces\ntaken back"
+ORDERS_IN_PYTHON = "10000 orders wait\nall are served, and paid 90000\none is taken back\n"
 ORDERS_IN_C, ORDERS_IN_CPP = f"{ORDERS}: done\nclosed: 1\n", f"{ORDERS}\nclosed\n"
 IN_RUST = {
     "bank": BANK,
@@ -119,7 +120,7 @@ def python(case, run, library):
     words = [sys.executable, "-W", "error"]
     done = run(*words, "-m", "unittest", "discover", "-s", f"{HERE}/python/tests", env=there, timeout=400)
     case("the tests in Python", done.returncode == 0, told_by(done))
-    for name, wanted in (("bank", BANK), ("bounded_queue", QUEUE), ("jobs", JOBS), ("transfers", TRANSFERS)):
+    for name, wanted in (("bank", BANK), ("bounded_queue", QUEUE), ("jobs", JOBS), ("orders", ORDERS_IN_PYTHON), ("transfers", TRANSFERS)):
         done = run(*words, f"{HERE}/examples/{name}.py", env=there, timeout=400)
         case(f"{name}.py", done.stdout.decode() == wanted, told_by(done))
     if run(sys.executable, "-m", "mypy", "--version", env=there).returncode:

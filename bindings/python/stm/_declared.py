@@ -62,6 +62,10 @@ class Waiter(ctypes.Structure):
     _fields_ = [("asked", Asked), ("own", ctypes.c_void_p), ("stopped", ctypes.c_int32)]
 
 
+class CallTold(ctypes.Structure):
+    _fields_ = [("own", ctypes.c_void_p), ("answer", Answer)]
+
+
 _TEXT = [ctypes.c_char_p, ctypes.c_size_t]
 _ROOM = [ctypes.c_char_p, ctypes.c_size_t, ctypes.POINTER(ctypes.c_size_t)]
 _SERVICE, _TX, _CODE, _COUNT = ctypes.c_void_p, ctypes.c_uint32, ctypes.c_int32, ctypes.c_uint64
@@ -85,6 +89,10 @@ CALLS: Dict[str, Tuple[Any, List[Any]]] = {
     "stm_try_atomically": (Answer, _CALL),
     "stm_atomically_within": (Answer, [*_CALL, ctypes.c_uint64]),
     "stm_wait_by": (_CODE, [ctypes.POINTER(Waiter)]),
+    # Nobody is called.
+    "stm_start": (ctypes.c_int64, [*_CALL, ctypes.c_void_p, ctypes.c_void_p]),
+    "stm_cancel": (_CODE, [_SERVICE, ctypes.c_int64]),
+    "stm_told": (ctypes.c_int64, [_SERVICE, ctypes.POINTER(CallTold), ctypes.c_size_t, ctypes.c_uint64]),
     "stm_service_observe": (Answer, _CALL),
     "stm_service_value": (
         _CODE,

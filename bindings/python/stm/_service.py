@@ -28,6 +28,7 @@ from ._faults import (
 from ._files import bounded, copied, refused, signed, taken
 from ._declared import Answer
 from ._library import library, word
+from ._started import Teller
 from ._table import Table
 
 _SAME = {
@@ -79,10 +80,6 @@ def _declared_by(word: str, text: str) -> List[str]:
     return names
 
 
-def _let_go(service: ctypes.c_void_p, _callback: object) -> None:
-    library.stm_service_free(service)
-
-
 class Service:
     """A store with its lock and its waiting threads: any thread may make any call at any time.
 
@@ -132,7 +129,8 @@ class Service:
             raise refused(code)
         # What C calls stays until C has let the service go, but not the keeper, which may have the service. At exit
         # threads may be in calls still, so nothing is let go then.
-        weakref.finalize(self, _let_go, self._at, None if keeper is None else keeper.callback).atexit = False
+        self._teller = Teller(self._at, None if keeper is None else keeper.callback)
+        weakref.finalize(self, self._teller.let_go).atexit = False
 
     def atomically(
         self, transaction: str, arguments: Sequence[int] = (), *, timeout: Optional[float] = None
@@ -152,6 +150,13 @@ class Service:
     def try_atomically(self, transaction: str, arguments: Sequence[int] = ()) -> int:
         """As `atomically`, but `Retries`, and nothing entered, where the transaction retries on the present values."""
         return self._returned(library.stm_try_atomically(*self._call(transaction, arguments)))
+
+    async def call(self, transaction: str, arguments: Sequence[int] = ()) -> int:
+        """As `atomically`, awaited under asyncio: no thread waits for it, and any number of them may wait in one. To cancel
+        it is to give it up, so `asyncio.wait_for` limits its time; what was entered before stays entered. Where the chapter
+        is full `on_chapter` is called before the call waits."""
+        _, number, packed, count = self._call(transaction, arguments)
+        return self._returned(await self._teller.call(number, packed, count))
 
     def observe(self, transaction: str, arguments: Sequence[int] = ()) -> int:
         """What the transaction would return on one state, beside the commits; nothing is entered."""
@@ -252,7 +257,8 @@ class Service:
         return told
 
     def _fault(self, answer: Answer) -> Fault:
-        entered = {"ticket": answer.ticket, "chapter": answer.chapter, "entry": answer.entry, "place": answer.place}
+        ticket = answer.ticket if answer.entry else -1
+        entered = {"ticket": ticket, "chapter": answer.chapter, "entry": answer.entry, "place": answer.place}
         if answer.code == _declared.THROWN:
             return Thrown(answer.value, **entered)
         if answer.code == _declared.BROKEN:
