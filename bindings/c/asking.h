@@ -6,8 +6,8 @@
 
 static inline bool is_full(const stm_answer *answer) { return answer->entry == 0 && answer->code == STM_CHAPTER_FULL; }
 
-/* Under the lock: the call was answered, and nothing was entered, or no thread waits for it. STM_CHAPTER_FULL is also that
- * the host is to be asked again for what it did not keep. */
+/* Under the lock: the call was answered, and nothing was entered, or no thread waits for it. STM_CHAPTER_FULL is also
+ * that the host is to be asked again for what it did not keep. */
 static stm_answer heed(stm_service *s, uint64_t whose, stm_answer answer) {
     if (answer.entry == 0 && answer.code == STM_NO_ROOM && s->chapters.is_refused) answer.code = STM_CHAPTER_FULL;
     if (is_started(whose)) {
@@ -28,7 +28,8 @@ static inline stm_answer ask_desk(stm_service *s, const struct asked *asked) {
 }
 
 /* Asks where the chapter was found full, until one is not. With `call` the thread waits for the host. */
-static stm_answer ask_again(stm_service *s, const struct asked *asked, struct call *call, const struct timespec *until) {
+static stm_answer ask_again(stm_service *s, const struct asked *asked, struct call *call,
+                            const struct timespec *until) {
     bool is_refused = false;
     take_lock(&s->lock);
     stm_answer answer = ask_desk(s, asked);

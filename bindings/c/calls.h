@@ -49,8 +49,8 @@ struct call {
     struct bell bell;
 };
 
-/* Whose call it is, by a number: where it lies; and one more where no thread waits for it (started.h). In either place the
- * job comes first. */
+/* Whose call it is, by a number: where it lies; and one more where no thread waits for it (started.h). In either place
+ * the job comes first. */
 static inline uint64_t whose_is(const void *call, bool is_started) { return (uint64_t)(uintptr_t)call | is_started; }
 static inline bool is_started(uint64_t whose) { return whose & 1; }
 static inline void *place_of(uint64_t whose) { return (void *)(uintptr_t)(whose & ~(uint64_t)1); }

@@ -39,7 +39,8 @@ static int32_t tell_host(stm_service *s, stm_ended *ended) {
     return failed ? STM_NO_ROOM : STM_DONE;
 }
 
-int stm_takes_chapters(void *own, const uint8_t *file, size_t file_length, const uint8_t *report, size_t report_length) {
+int stm_takes_chapters(void *own, const uint8_t *file, size_t file_length, const uint8_t *report,
+                       size_t report_length) {
     (void)own, (void)file, (void)file_length, (void)report, (void)report_length;
     return 1;
 }

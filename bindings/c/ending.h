@@ -53,8 +53,8 @@ static void begin_due(stm_service *s, struct started *one, const stm_job *job) {
     owe_started(one);
 }
 
-/* The desk has answered the call: it ended, or it waits, or it is long. If something is owed, it is so by who has asked,
- * who is in a call from now on. */
+/* The desk has answered the call: it ended, or it waits, or it is long. If something is owed, it is so by who has
+ * asked, who is in a call from now on. */
 static void begin_started(stm_service *s, struct started *one, const stm_answer *answer) {
     one->ticket = answer->ticket;
     s->told.count += !one->done;

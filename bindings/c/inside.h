@@ -24,8 +24,8 @@ struct chapters {
     struct call *waiting;
     /* What the host is told: only the teller has them. */
     struct text file, report;
-    /* Where the host takes them: the one that it can take; where the one lies that it has, until it has said how it went;
-     * and who waits for one. */
+    /* Where the host takes them: the one that it can take; where the one lies that it has, until it has said how it
+     * went; and who waits for one. */
     stm_ended offered;
     const void *out;
     struct call *takers;

@@ -9,7 +9,10 @@
  *
  * A call that waits lies on its thread's stack, and the desk knows it by where it lies. Who has the lock writes the
  * answer down there. The bells are rung when the lock is free again, and a thread goes on only after its bell: so a
- * call is there for as long as another thread knows of it. */
+ * call is there for as long as another thread knows of it.
+ *
+ * A call without a thread lies in a block of its own, and is found by its ticket (started.h). Who has the lock writes
+ * its answer down too, and tells it when it has no lock, at the end of its own call (ending.h, starting.h). */
 #ifndef _POSIX_C_SOURCE
 #define _POSIX_C_SOURCE 200809L
 #endif
@@ -183,7 +186,8 @@ int32_t stm_service_open(const uint8_t *file, size_t file_length, const stm_serv
  * their locks stay taken, and they stay in their calls. */
 static bool is_of_another_process(const stm_service *s) { return s->process != getpid(); }
 
-/* Nothing is entered from now on. The host is told what it did not keep, where it was not told so before, or `again`. */
+/* Nothing is entered from now on. The host is told what it did not keep, where it was not told so before, or
+ * `again`. */
 static void close_service(stm_service *s, bool again) {
     int before;
     pthread_setcancelstate(PTHREAD_CANCEL_DISABLE, &before);

@@ -59,8 +59,8 @@ int stm_takes_chapters(void *own, const uint8_t *file, size_t file_length, const
                        size_t report_length);
 
 /* For a host in a language whose callback can be stopped before its first line, so that what it answers is not known: a
- * keeper of chapters, with `stm_ask_keeper` as `ended` and the keeper as `own`. It is asked with the texts here, and the
- * chapter was kept where `asked` has set `kept`, which is 0 before, to another number. */
+ * keeper of chapters, with `stm_ask_keeper` as `ended` and the keeper as `own`. It is asked with the texts here, and
+ * the chapter was kept where `asked` has set `kept`, which is 0 before, to another number. */
 typedef struct stm_keeper {
     void (*asked)(void *own);
     void *own;
@@ -114,34 +114,36 @@ typedef struct stm_waiter {
 } stm_waiter;
 
 /* From now on the waiter is asked while this thread waits; NULL: nobody, as at first: STM_DONE; STM_MEMORY. Where it
- * stops, the answer is STM_TIMED_OUT, but where the transaction was entered before it can be given up. While it is asked
- * nobody is. */
+ * stops, the answer is STM_TIMED_OUT, but where the transaction was entered before it can be given up. While it is
+ * asked nobody is. */
 int32_t stm_wait_by(stm_waiter *waiter);
 
 /* ---- Calls without a thread ----
  *
- * A call that is started waits, and no thread with it; so there may be as many as a chapter has room for. While one waits
- * it takes 200 bytes at most beside its task's place. What becomes of it is found by a thread that makes a call of the
- * service, whichever that is, and this thread tells it, with no lock held, before it sleeps and before it returns from
- * its own call; so maybe before `stm_start` returns. A long transaction that was started, or whose task runs again, is
- * evaluated by the thread that finds it so, then too: beside what others commit, and after 8 tries under the lock. */
+ * A call that is started waits, and no thread with it; so there may be as many as a chapter has room for. While one
+ * waits it takes 200 bytes at most beside its task's place. What becomes of it is found by a thread that makes a call
+ * of the service, whichever that is, and this thread tells it, with no lock held, before it sleeps and before it
+ * returns from its own call; so maybe before `stm_start` returns. A long transaction that was started, or whose task
+ * runs again, is evaluated by the thread that finds it so, then too: beside what others commit, and after 8 tries under
+ * the lock. */
 
-/* Who is called when a call has ended, with its `own` and its answer: the outcome, as of `stm_atomically`; or STM_CLOSED or
- * STM_MEMORY with the ticket, and nothing was entered. It is called once for each call, and may make any call of the service
- * but `stm_service_free`, also start others, in a stack that does not grow: what its thread finds meanwhile is told by
- * that thread when it has returned, one after the other. So one that waits lets those behind it wait, and one that wants
- * what its thread has, as a mutex of the host's, never gets it. It returns, and is not left by an exception or a
- * `longjmp`. The thread is not cancelled meanwhile. */
+/* Who is called when a call has ended, with its `own` and its answer: the outcome, as of `stm_atomically`; or
+ * STM_CLOSED or STM_MEMORY with the ticket, and nothing was entered. It is called once for each call, and may make any
+ * call of the service but `stm_service_free`, also start others, in a stack that does not grow: what its thread finds
+ * meanwhile is told by that thread when it has returned, one after the other. So one that waits lets those behind it
+ * wait, and one that wants what its thread has, as a mutex of the host's, never gets it. It returns, and is not left by
+ * an exception or a `longjmp`. The thread is not cancelled meanwhile. */
 typedef void stm_done(void *own, stm_answer answer);
 
-/* Starts the call: its ticket, and `done` is called when it has ended; `done` NULL: `stm_told` tells it. Else the code says
- * why not, and nothing follows: STM_CLOSED, STM_MEMORY, STM_UNKNOWN, as of `stm_atomically`; STM_NO_ROOM: so too, or the
- * host takes the chapters and has a whole one to keep first, for this call waits for no other thread that keeps it. */
+/* Starts the call: its ticket, and `done` is called when it has ended; `done` NULL: `stm_told` tells it. Else the code
+ * says why not, and nothing follows: STM_CLOSED, STM_MEMORY, STM_UNKNOWN, as of `stm_atomically`; STM_NO_ROOM: so too,
+ * or the host takes the chapters and has a whole one to keep first, for this call waits for no other thread that keeps
+ * it. */
 int64_t stm_start(stm_service *service, uint32_t transaction, const int64_t *arguments, size_t count, stm_done *done,
                   void *own);
 
-/* The started call with the ticket is given up: STM_DONE, and nothing is told of it. STM_TOO_LATE: what became of it was
- * told, or will be; or none was started with this ticket. */
+/* The started call with the ticket is given up: STM_DONE, and nothing is told of it. STM_TOO_LATE: what became of it
+ * was told, or will be; or none was started with this ticket. */
 int32_t stm_cancel(stm_service *service, int64_t ticket);
 
 /* What became of a call that was started without `done`: its `own`, and the answer that `done` would have. */
@@ -156,9 +158,9 @@ int64_t stm_told(stm_service *service, stm_call_told *room, size_t count, uint64
 
 /* ---- Chapters that the host takes ----
  *
- * With `stm_takes_chapters` as `ended`. A chapter that is full ends, and the next one begins; when that is full too, calls
- * wait until the host has said how it went with the one before, and are answered STM_NO_ROOM if it was not kept. The
- * last chapter does not end. */
+ * With `stm_takes_chapters` as `ended`. A chapter that is full ends, and the next one begins; when that is full too,
+ * calls wait until the host has said how it went with the one before, and are answered STM_NO_ROOM if it was not kept.
+ * The last chapter does not end. */
 
 /* Waits at most so long until a chapter ended: STM_DONE, and `chapter`, which was empty, has it: write down its number,
  * file and report (`stm_ended_chapter`, `stm_ended_file`, `stm_ended_report`), which takes no lock, and then say how it
@@ -166,8 +168,8 @@ int64_t stm_told(stm_service *service, stm_call_told *room, size_t count, uint64
  * STM_FULL; STM_NOT_ENDED: the host does not take chapters. One chapter at a time is at the host. */
 int32_t stm_told_chapter(stm_service *service, stm_ended *chapter, uint64_t nanoseconds);
 
-/* The chapter was kept; or it was not, and is told again: STM_DONE, and `chapter` is empty. STM_NOT_ENDED: it is not this
- * service's; STM_EMPTY. */
+/* The chapter was kept; or it was not, and is told again: STM_DONE, and `chapter` is empty. STM_NOT_ENDED: it is not
+ * this service's; STM_EMPTY. */
 int32_t stm_chapter_kept(stm_service *service, stm_ended *chapter);
 int32_t stm_chapter_not_kept(stm_service *service, stm_ended *chapter);
 
@@ -187,8 +189,8 @@ int64_t stm_service_table_length(const stm_service *service, uint32_t table);
 /* As `stm_service_value`, of the cell `index` of a table. */
 int32_t stm_service_cell(stm_service *service, uint32_t table, uint32_t index, int64_t *value, uint64_t *version);
 
-/* Copies the present values of a table's cells from the number `from` on into the room, which is for `count` numbers, as
- * `stm_cells` does: how many, or STM_UNKNOWN. All are of one state. */
+/* Copies the present values of a table's cells from the number `from` on into the room, which is for `count` numbers,
+ * as `stm_cells` does: how many, or STM_UNKNOWN. All are of one state. */
 int64_t stm_service_cells(stm_service *service, uint32_t table, uint32_t from, int64_t *values, size_t count);
 
 /* How many entries there were in all chapters; and the number of the chapter, from 0 on. */

@@ -109,8 +109,8 @@ static void take_from(struct table *t, struct started *one) {
 
 /* ---- What a thread owes ---- */
 
-/* To whose hosts this thread is to tell the answer, and whose jobs it is to evaluate, once it has no lock: in the order in
- * which it has found them. While it does so what it finds is added. */
+/* To whose hosts this thread is to tell the answer, and whose jobs it is to evaluate, once it has no lock: in the order
+ * in which it has found them. While it does so what it finds is added. */
 static __thread struct {
     struct started *first, *last;
     bool is_doing;

@@ -349,11 +349,12 @@ public:
         return by_name(name, [&](std::uint32_t number) { return atomically_within(time, number, given); });
     }
 
-    /// Starts the call, and no thread waits for it: `done`, which takes an `outcome`, is called with how it ended, once,
-    /// by a thread that is in a call of the service, maybe before this one returns. It may make any call of the service,
-    /// and start others; what its thread finds meanwhile is told after it. It throws nothing: that ends the process. There
-    /// is no value where nothing was started and nothing follows: `STM_CLOSED`, `STM_UNKNOWN`, `STM_NO_ROOM`,
-    /// `STM_MEMORY`. Those that wait when the service goes out of scope are told `STM_CLOSED` before it is gone.
+    /// Starts the call, and no thread waits for it: `done`, which takes an `outcome`, is called with how it ended,
+    /// once, by a thread that is in a call of the service, maybe before this one returns. It may make any call of the
+    /// service, and start others; what its thread finds meanwhile is told after it. It throws nothing: that ends the
+    /// process. There is no value where nothing was started and nothing follows: `STM_CLOSED`, `STM_UNKNOWN`,
+    /// `STM_NO_ROOM`, `STM_MEMORY`. Those that wait when the service goes out of scope are told `STM_CLOSED` before it
+    /// is gone.
     template <class Done> answer<started> start(std::uint32_t transaction, arguments given, Done done) {
         if (!held_) return answer<started>::none(STM_EMPTY);
         stm_service *at = held_->at;

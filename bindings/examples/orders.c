@@ -1,5 +1,5 @@
-/* Orders that wait for stock, all in one thread: each is a call that is started, and who delivers serves those that can be
- * served. One that is taken back has no effect, and those that wait when the shop closes are told so. */
+/* Orders that wait for stock, all in one thread: each is a call that is started, and who delivers serves those that can
+ * be served. One that is taken back has no effect, and those that wait when the shop closes are told so. */
 #include "service.h"
 
 #include <stdio.h>

@@ -1,5 +1,5 @@
-/// Orders that wait for stock, all in one thread: a future is what becomes of each, and who delivers serves those that can
-/// be served. One that is taken back has no effect.
+/// Orders that wait for stock, all in one thread: a future is what becomes of each, and who delivers serves those that
+/// can be served. One that is taken back has no effect.
 #include "stm.hpp"
 
 #include <iostream>

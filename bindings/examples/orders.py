@@ -1,5 +1,5 @@
-"""Orders that wait for stock, all in one thread: each is awaited, and who delivers serves those that can be served. One that
-is cancelled is taken back."""
+"""Orders that wait for stock, all in one thread: each is awaited, and who delivers serves those that can be served. One
+that is cancelled is taken back."""
 
 import asyncio
 

@@ -1,5 +1,5 @@
-//! Orders that wait for stock, all in one thread: each is a future, and who delivers serves those that can be served. One
-//! that is dropped is taken back. The executor is the shortest: it polls all that were woken, one after another.
+//! Orders that wait for stock, all in one thread: each is a future, and who delivers serves those that can be served.
+//! One that is dropped is taken back. The executor is the shortest: it polls all that were woken, one after another.
 
 use std::future::Future;
 use std::pin::Pin;

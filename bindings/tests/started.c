@@ -1,5 +1,5 @@
-/* Calls without a thread, some at a time: what each answers, who tells it and when, how one is given up, long ones, and how
- * all end with their service. Prints `good`. */
+/* Calls without a thread, some at a time: what each answers, who tells it and when, how one is given up, long ones, and
+ * how all end with their service. Prints `good`. */
 #include "judging.h"
 
 #include <pthread.h>
@@ -121,7 +121,8 @@ static void is_given_up(void) {
     wants(how_many() == 1);
 }
 
-/* The first is told, and gives up the second, which waits, or the third, which was entered in the same hold of the lock. */
+/* The first is told, and gives up the second, which waits, or the third, which was entered in the same hold of the
+ * lock. */
 static void one_gives_up_others(void) {
     stm_service *s = opens(TEXT, NULL);
     begins();
@@ -238,7 +239,8 @@ static int64_t asked_for(stm_service *s, uint32_t transaction, int64_t argument,
 static void who_asks_is_told(void) {
     stm_service *s = opens(TEXT, NULL);
     begins();
-    wants(stm_told(s, room, MOST, 0) == 0 && stm_told(s, room, MOST, MILLISECOND) == 0 && stm_told(s, room, 0, LONG_TIME) == 0);
+    wants(stm_told(s, room, MOST, 0) == 0 && stm_told(s, room, MOST, MILLISECOND) == 0);
+    wants(stm_told(s, room, 0, LONG_TIME) == 0);
     wants(asked_for(s, INC, 0, 0) == 0 && asked_for(s, GET, 2, 1) == 1 && asked_for(s, PUT, 3, 2) == 2);
     wants(stm_told(s, room, 2, 0) == 2 && room[0].own == &ones[0] && is(room[0].answer, STM_DONE, 1, 0, 1, 0));
     wants(room[1].own == &ones[2] && is(room[1].answer, STM_DONE, 3, 2, 2, 1));

@@ -1,4 +1,5 @@
-/// Calls without a thread by stm.hpp: who is told, futures, and what is given up; and all that was kept for them is let go.
+/// Calls without a thread by stm.hpp: who is told, futures, and what is given up; and all that was kept for them is let
+/// go.
 #include "stm.hpp"
 #include "wants.h"
 
@@ -41,7 +42,8 @@ static void each_is_told() {
     auto bad = bank.start("fail", {7}, hears(&told));
     wants(bad && told.size() == 2 && told[1].thrown() == 7 && told[1].entry() == 2);
     auto waits = bank.start("get", {10}, hears(&told)), too = bank.start(1, {20}, hears(&told));
-    wants(waits && too && told.size() == 2 && hears::there == 2 && too->cancel() && !too->cancel() && hears::there == 1);
+    wants(waits && too && told.size() == 2 && hears::there == 2);
+    wants(too->cancel() && !too->cancel() && hears::there == 1);
     wants(*bank.atomically("put", {5}) == 10 && told.size() == 3 && *told[2] == 10 && hears::there == 0);
     wants(!bank.start("put", {}, hears(&told)) && bank.start("none", {}, hears(&told)).code() == STM_UNKNOWN);
     auto last = bank.start("get", {1}, hears(&told));

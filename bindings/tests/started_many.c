@@ -1,9 +1,8 @@
-/* Many calls without a thread: 60000 wait in one thread, one commit makes all of them ready, and each is told once; a chain
- * of a million, each started when the one before is told; both in a stack of 256 KB. Closing tells all; giving one up
- * beside the commit that wakes it. Prints `good`.
+/* Many calls without a thread: 60000 wait in one thread, one commit makes all of them ready, and each is told once; a
+ * chain of a million, each started when the one before is told; both in a stack of 256 KB. Closing tells all; giving
+ * one up beside the commit that wakes it. Prints `good`.
  *
- *     started_many [WAIT CHAIN RACES]    how many wait, how long the chain is, and how many are given up so
- */
+ *     started_many [WAIT CHAIN RACES]    how many wait, how long the chain is, and how many are given up so */
 #include "judging.h"
 
 #include <limits.h>
@@ -35,7 +34,8 @@ static void in_a_small_stack(void *(*work)(void *)) {
 /* One of those that wait, each of which has the place of its own number here. */
 static void is_told(unsigned char *own, stm_answer answer) {
     long number = own - told;
-    wants(number >= 0 && number < wait_count && ++*own == 1 && answer.code == wanted && answer.ticket == tickets[number]);
+    wants(number >= 0 && number < wait_count && ++*own == 1);
+    wants(answer.code == wanted && answer.ticket == tickets[number]);
     if (wanted == STM_DONE) wants(answer.value == number && answer.entry > 0 && answer.place >= 1);
     told_count++;
 }

@@ -1,6 +1,6 @@
-/* Memory of calls without a thread, and of chapters that the host takes: each request is refused in turn, and a call is not
- * begun then, or is told so, and none is told twice or left behind; what one takes while it waits; and none of it stays.
- * Prints `good`. It brings its own memory. */
+/* Memory of calls without a thread, and of chapters that the host takes: each request is refused in turn, and a call is
+ * not begun then, or is told so, and none is told twice or left behind; what one takes while it waits; and none of it
+ * stays. Prints `good`. It brings its own memory. */
 #include "counted.h"
 #include "service.h"
 #include "wants.h"

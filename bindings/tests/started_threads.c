@@ -1,8 +1,7 @@
-/* Threads that start calls of all kinds, give some up, and ask what became of others, while chapters end: of each call it is
- * told once what became of it, or it was given up, and the chapters have as many as were told. Prints `good`.
+/* Threads that start calls of all kinds, give some up, and ask what became of others, while chapters end: of each call
+ * it is told once what became of it, or it was given up, and the chapters have as many as were told. Prints `good`.
  *
- *     started_threads CALLS    so many calls by each thread
- */
+ *     started_threads CALLS    so many calls by each thread */
 #include "judging.h"
 
 #include <pthread.h>

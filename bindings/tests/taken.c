@@ -1,5 +1,5 @@
-/* Chapters that the host takes: each is told until it was kept, by its number, with file and report, a pair; calls go on
- * while one is out, and wait where the next one is full too; and the end of the service. Prints `good`. */
+/* Chapters that the host takes: each is told until it was kept, by its number, with file and report, a pair; calls go
+ * on while one is out, and wait where the next one is full too; and the end of the service. Prints `good`. */
 #include "judging.h"
 
 #include <pthread.h>
@@ -45,7 +45,8 @@ static bool is(stm_ended *chapter, uint64_t number, long entries) {
 static void is_taken(void) {
     stm_service *s = taking(3);
     stm_ended chapter = {0};
-    wants(stm_told_chapter(s, &chapter, 0) == STM_TIMED_OUT && stm_told_chapter(s, &chapter, MILLISECOND) == STM_TIMED_OUT);
+    wants(stm_told_chapter(s, &chapter, 0) == STM_TIMED_OUT);
+    wants(stm_told_chapter(s, &chapter, MILLISECOND) == STM_TIMED_OUT);
     wants(incs(s, 3) == STM_DONE && stm_told_chapter(s, &chapter, 0) == STM_TIMED_OUT && !chapter.at);
     /* One call more, and the first has ended. The next has room for it and two more. */
     wants(incs(s, 1) == STM_DONE && stm_told_chapter(s, &chapter, 0) == STM_DONE && is(&chapter, 0, 3));

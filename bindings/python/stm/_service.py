@@ -152,9 +152,9 @@ class Service:
         return self._returned(library.stm_try_atomically(*self._call(transaction, arguments)))
 
     async def call(self, transaction: str, arguments: Sequence[int] = ()) -> int:
-        """As `atomically`, awaited under asyncio: no thread waits for it, and any number of them may wait in one. To cancel
-        it is to give it up, so `asyncio.wait_for` limits its time; what was entered before stays entered. Where the chapter
-        is full `on_chapter` is called before the call waits."""
+        """As `atomically`, awaited under asyncio: no thread waits for it, and any number of them may wait in one. To
+        cancel it is to give it up, so `asyncio.wait_for` limits its time; what was entered before stays entered. Where
+        the chapter is full `on_chapter` is called before the call waits."""
         _, number, packed, count = self._call(transaction, arguments)
         return self._returned(await self._teller.call(number, packed, count))
 

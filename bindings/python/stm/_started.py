@@ -1,5 +1,5 @@
-"""Calls that no thread waits for: a thread of this package waits in the library until calls have ended, and tells the event
-loops. No code of Python runs inside a call of the library for it."""
+"""Calls that no thread waits for: a thread of this package waits in the library until calls have ended, and tells the
+event loops. No code of Python runs inside a call of the library for it."""
 
 from __future__ import annotations
 
@@ -99,8 +99,8 @@ class Teller:
                 pass
 
     def let_go(self) -> None:
-        """The service is used no more. Where the thread is in a call it lets it go, for this may be that thread. In a child
-        of the process nothing is let go."""
+        """The service is used no more. Where the thread is in a call it lets it go, for this may be that thread. In a
+        child of the process nothing is let go."""
         if self._process != os.getpid():
             return
         with self._lock:

@@ -7,8 +7,8 @@ use std::future::Future;
 use std::pin::Pin;
 use std::task::{Context, Poll};
 
-/// A call of a service that no thread waits for, made by `Service::call`: a future of what the transaction returned, over
-/// any executor or none. It is started when it is polled first, and what it is told is the same as of
+/// A call of a service that no thread waits for, made by `Service::call`: a future of what the transaction returned,
+/// over any executor or none. It is started when it is polled first, and what it is told is the same as of
 /// `Service::atomically`. Where it waits it is woken by a thread that is in a call of the service, and takes no thread.
 /// To drop it is to give it up: what was not entered until then never will be.
 #[must_use = "a call is made when it is awaited"]
