@@ -137,8 +137,8 @@ typedef void stm_done(void *own, stm_answer answer);
 
 /* Starts the call: its ticket, and `done` is called when it has ended; `done` NULL: `stm_told` tells it. Else the code
  * says why not, and nothing follows: STM_CLOSED, STM_MEMORY, STM_UNKNOWN, as of `stm_atomically`; STM_NO_ROOM: so too,
- * or the host takes the chapters and has a whole one to keep first, for this call waits for no other thread that keeps
- * it. */
+ * or the host takes the chapters and has a whole one to keep first. It waits for `ended` as other calls do where the
+ * chapter is full; for a host that takes the chapters it does not wait. */
 int64_t stm_start(stm_service *service, uint32_t transaction, const int64_t *arguments, size_t count, stm_done *done,
                   void *own);
 
