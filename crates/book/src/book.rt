@@ -174,7 +174,7 @@ impl<'a> Book<'a> {
         let chapter = Chapter::first(alloc, catalogue, room)?;
         let (base, present, since) = openings(alloc, catalogue)?;
         let journal = Vec::with_capacity(alloc, room)?;
-        let written = Written::new(alloc);
+        let written = Written::new(alloc)?;
         let table = TaskTable::open(alloc, count, spare, variables)?;
         Ok(Book::of_parts(
             chapter, cells, publisher, base, present, since, journal, written, table, spare,

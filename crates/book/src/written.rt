@@ -11,8 +11,11 @@ use std::alloc::{AllocError, Global};
 use txn::VarId;
 use txn_evaluator::notes::Note;
 
-/// What a run noted, and what it wrote, in room that is kept from one run to the next. The first run that writes
-/// takes it.
+/// So many writes of a run take no memory.
+const FEW: usize = 64;
+
+/// What a run noted, and what it wrote, in room that is kept from one run to the next. A run that writes more often than
+/// one before it takes more.
 #[derive(Drop)]
 pub struct Written {
     /// The notes of the run.
@@ -24,13 +27,13 @@ pub struct Written {
 }
 
 impl Written {
-    /// Nothing is written. It takes no memory.
-    pub fn new(alloc: Global) -> Written {
-        Written {
-            notes: Vec::new(alloc),
-            places: Vec::new(alloc),
-            writes: Vec::new(alloc),
-        }
+    /// Nothing is written, and there is room for a few writes.
+    pub fn new(alloc: Global) -> Result<Written, AllocError> {
+        Ok(Written {
+            notes: Vec::with_capacity(alloc, FEW)?,
+            places: Vec::with_capacity(alloc, FEW)?,
+            writes: Vec::with_capacity(alloc, FEW)?,
+        })
     }
 
     /// Lists the noted places with their values, ascending, each once.
