@@ -190,7 +190,7 @@ static void waits_in_it(void *own, stm_answer answer) {
     int64_t nine = 9;
     wants(answer.code == STM_DONE);
     stm_answer own_call = stm_atomically(s, GET, &nine, 1);
-    wants(own_call.code == STM_DONE && how_many() == 0 && stm_service_entered(s) >= 4);
+    wants(own_call.code == STM_DONE && how_many() == 0 && stm_service_entered(s) >= 3);
     wants(stm_try_atomically(s, INC, NULL, 0).code == STM_DONE && starts(s, INC, 0, 7) >= 0 && how_many() == 0);
 }
 
