@@ -1,6 +1,6 @@
 //! The chapters of a desk.
 
-ghost use Rattle.std.specs.Prelude.{◌≡◌, ◌↔◌, ℕ, None, IfErr, IfOk, IsTrue, OnErr};
+ghost use Rattle.std.specs.Prelude.{◌≡◌, ◌↔◌, [], ℕ, None, IfErr, IfOk, IsTrue, OnErr};
 ghost use Rattle.book.specs.Turns.{IsIdle};
 ghost use Rattle.stm_store.specs.Keeping.{KeepsTasks};
 ghost use Rattle.stm_store.specs.declared.answers.Refused.TheVariants as Refused;
