@@ -1,0 +1,8 @@
+pub mod Lists
+pub mod Adding
+pub mod Joining
+pub mod Histories
+pub mod Waiting
+pub mod Asking
+pub mod InTime
+pub mod Crossing

@@ -1,0 +1,25 @@
+use Rattle.std.proofs.Common.{sym, subst}
+use Rattle.std.proofs.Math.Logic.{∥∥₁_map}
+use Rattle.stm_desk.specs.Answering.{history_of}
+use Rattle.stm_desk.specs.History.{Begins, History}
+use Rattle.stm_sharing.proofs.Asking.{legal_on}
+use Rattle.stm_sharing.proofs.Waiting.{awaited_on, carries_hands_on}
+use Rattle.stm_sharing.proofs.behind.Behind.close.Goals as goal
+
+pub add-requires-clause-legal : goal.add-requires-clause-legal
+add-requires-clause-legal g c κs within =
+    let s = c.args.self.now in
+    legal_on g.N.Naming.catalogue g.N.Naming.first s.desk c.close.new.self c.close.ensures.first s.named s.placed
+
+pub add-requires-clause-begins : goal.add-requires-clause-begins
+add-requires-clause-begins g c κs within =
+    let s = c.args.self.now in
+    let left = c.close.ensures.history in
+    subst (λ (h : History). Begins h (history_of c.close.new.self)) (sym s.shown) (left.0, left.1)
+
+pub invariant_of-self-clause-seated : goal.invariant_of-self-clause-seated
+invariant_of-self-clause-seated g c t seat at =
+    let s = c.args.self.now in
+    let new = c.close.new.self in
+    let old = s.seated t seat at in
+    (old.0, λ none. ∥∥₁_map (old.1 none) (awaited_on s.desk.work.waiters new.work.waiters t seat.call (carries_hands_on s.desk.work.waiters new.work.waiters c.close.ensures.told.hands_on)))

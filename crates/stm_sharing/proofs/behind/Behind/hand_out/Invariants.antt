@@ -1,0 +1,8 @@
+use Rattle.std.proofs.Common.{◌≡◌, length}
+use Rattle.stm_sharing.proofs.behind.Behind.hand_out.Given as goal
+
+abbrev pub invariant-loop : goal.invariant-loop
+invariant-loop g l = l.self.front ≡ l.initial.self.front
+
+abbrev pub decreases-loop : goal.decreases-loop
+decreases-loop g l = length l.self.desk.work.waiters.told.items

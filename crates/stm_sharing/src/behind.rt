@@ -1,0 +1,303 @@
+//! What the lock of a service guards.
+
+ghost use Rattle.std.specs.Prelude.{◌≡◌, ◌≢◌, ◌<◌, ◌++◌, ◌∷◌, [], ℕ, true, false, IfSome, Ok, OnOk, None, Some, length};
+ghost use Rattle.std.specs.BTreeMap.{get};
+ghost use Rattle.std.specs.Option.{ForSome};
+ghost use Rattle.std.specs.Coded.{codes};
+ghost use Rattle.std.specs.Ordering.{nat_cmp};
+ghost use Rattle.txn.specs.Codes.{coded_listing};
+ghost use Rattle.stm_desk.specs.Answering.{history_of};
+ghost use Rattle.stm_sharing.specs.Telling.{IsAwaited};
+
+use crate::front::{Front, Head, Opened};
+use crate::name::Naming;
+use crate::seat::{Awaited, Seat, put, remove, tell};
+use std::alloc::Global;
+use std::collections::BTreeMap;
+use std::sync::{Arc, Condvar, Wait};
+use stm_desk::{Answer, Asked, Desk};
+use stm_store::{Job, Refused, Store, Ticket, Way};
+use txn::Call;
+
+/// A desk under a name, with all that its history shows, and a seat for each thread that waits.
+pub(crate) struct Behind<N: Naming> {
+    alloc: Global,
+    desk: Desk,
+    head: Head<N>,
+    front: Front<N>,
+    /// By ticket.
+    seats: BTreeMap<u64, Seat<N>>,
+    ghost named: { desk.work.first.value.catalogue.now ≡ N.catalogue } by { Prim.hlevel (codes, coded_listing) },
+    ghost placed: { desk.work.first.value.book.present.state ≡ N.first },
+    ghost shown: { front ≡ desk.work.history.items },
+    ghost seated: { (ticket : ℕ) → ForSome (get nat_cmp seats ticket) (λ seat. (seat.ticket.0 ≡ ticket)
+        × (seat.heard ≡ None → ∥ IsAwaited desk.work.waiters ticket seat.call ∥₁)) },
+}
+
+/// Written by hand, so that its end is one call.
+impl<N: Naming> Drop for Behind<N> {
+    fn drop(self) {
+        let Behind {
+            alloc: _,
+            desk: _desk,
+            head: _head,
+            front: _front,
+            seats: _seats,
+        } = self;
+    }
+}
+
+/// What came of a call at once.
+#[derive(Drop)]
+pub(crate) enum Begun {
+    Ended(Answer),
+    /// Its thread waits for this, until the bell rings.
+    Waits(Awaited, Arc<Condvar>),
+    Refused(Refused),
+    /// Its caller has seen more than there is, which is never so.
+    Ahead,
+}
+
+impl<N: Naming> Behind<N> {
+    ghost use Rattle.std.specs.Prelude.{List, ℤ};
+    ghost use Rattle.txn_programs.specs.declared.ast.TxId.{TxId};
+    ghost use Rattle.txn_programs.specs.Listing.{IsCallable};
+    ghost use Rattle.stm_desk.specs.declared.answers.Became.TheVariants as Became;
+    ghost use Rattle.stm_desk.specs.Answering.{IsAsked};
+    ghost use Rattle.stm_desk.specs.Asking.{IsStill};
+    ghost use Rattle.stm_desk.specs.History.{Begins};
+    ghost use Rattle.stm_desk.specs.Keeping.{IsLeft};
+    ghost use Rattle.stm_desk.specs.Waiting.{waiting_at};
+    ghost use Rattle.stm_sharing.specs.Beginning.{IsBegun, IsNew, IsWaiting, WaitsWith};
+    ghost use Rattle.stm_sharing.specs.Telling.{IsTold};
+
+    /// The desk of a store, whose ready tasks have had their turns then, and a front that has seen nothing.
+    pub(crate) fn new<R: Wait>(
+        rt: &R,
+        alloc: Global,
+        store: Store,
+        opened: Opened,
+    ) -> (Behind<N>, Front<N>)
+        requires named { store.catalogue.now ≡ N.catalogue }
+        requires placed { store.book.present.state ≡ N.first }
+        requires book { opened.seen.book ≡ N.book }
+        requires still { IsStill store }
+        ensures { result.1 ≡ [] }
+    {
+        let (head, first) = opened.named::<N>();
+        let desk = Desk::open(alloc, store, Vec::new(alloc));
+        let mut front = first.again();
+        front.add(rt, &head, &desk);
+        let behind = Behind {
+            alloc,
+            desk,
+            head,
+            front,
+            seats: BTreeMap::new(alloc),
+        };
+        (behind, first)
+    }
+
+    /// A call, whose caller has seen this, and is shown all that there is where the call is answered.
+    pub(crate) fn call<R: Wait>(
+        &mut self,
+        rt: &R,
+        call: &Call,
+        way: Way,
+        front: &mut Front<N>,
+    ) -> Begun
+        requires known { IsCallable N.catalogue call.now.tx call.now.arguments }
+        ensures { IsBegun N.catalogue N.first front.old call.now way result front.new }
+    {
+        if !self.front.covers(front) {
+            return Begun::Ahead;
+        }
+        match self.ask(rt, call, way) {
+            Ok(Asked::Ended(answer)) => {
+                *front = self.front.again();
+                self.hand_out();
+                Begun::Ended(answer)
+            }
+            Ok(Asked::Waits(ticket)) => self.wait(rt, ticket, call, front),
+            Ok(Asked::Runs(job)) => self.run(rt, job, call, front),
+            Ok(Asked::ChapterFull) => {
+                *front = self.front.again();
+                Begun::Refused(Refused::NoRoom)
+            }
+            Err(why) => {
+                *front = self.front.again();
+                Begun::Refused(why)
+            }
+        }
+    }
+
+    /// What the desk is asked, and what it made of it is shown.
+    fn ask<R: Wait>(&mut self, rt: &R, call: &Call, way: Way) -> Result<Asked, Refused>
+        ensures asked { IsAsked self.old.desk call.now way 0 result self.new.desk }
+        ensures grows { Begins self.old.front self.new.front }
+    {
+        self.desk.store().law();
+        let asked = self.desk.ask(call.tx, call.arguments.as_slice(), way, 0);
+        self.front.add(rt, &self.head, &self.desk);
+        asked
+    }
+
+    /// The long call that runs has its turn here, and its caller waits for what came of it.
+    fn run<R: Wait>(&mut self, rt: &R, job: Job, call: &Call, front: &mut Front<N>) -> Begun
+        requires known { IsCallable N.catalogue job.tx job.arguments }
+        requires waits { WaitsWith self.old.desk.work.waiters job.ticket call.now }
+        requires is_new { IsNew front.old job.ticket }
+        requires covers { Begins front.old self.old.front }
+        ensures { IsWaiting front.old call.now result front.new }
+    {
+        let begun = self.wait(rt, job.ticket, call, front);
+        self.run_now(rt, job);
+        begun
+    }
+
+    /// A running task has its turn here, where it still runs, and then what that woke.
+    fn run_now<R: Wait>(&mut self, rt: &R, job: Job)
+        requires known { IsCallable N.catalogue job.tx job.arguments }
+    {
+        self.known();
+        // Else what became of it was told.
+        let _ran = self.desk.run_now(job);
+        self.front.add(rt, &self.head, &self.desk);
+        self.hand_out();
+    }
+
+    /// The desk's program is the one that its name says. It does nothing: its contract is the law.
+    fn known(&self)
+        ensures { (tx : TxId) (arguments : List ℤ) → IsCallable N.catalogue tx arguments
+            → IsCallable self.now.desk.work.store.catalogue.now tx arguments }
+    {
+        // To look at a field is to be told what the type keeps.
+        let _seats = self.seats.len();
+    }
+
+    /// Whoever called waits from now on. Out of memory its task is given up.
+    fn wait<R: Wait>(&mut self, rt: &R, ticket: Ticket, call: &Call, front: &mut Front<N>) -> Begun
+        requires waits { WaitsWith self.old.desk.work.waiters ticket call.now }
+        requires is_new { IsNew front.old ticket }
+        requires covers { Begins front.old self.old.front }
+        ensures { IsWaiting front.old call.now result front.new }
+    {
+        let awaited = Awaited {
+            ticket,
+            call: *call,
+        };
+        match self.sit(&awaited) {
+            Some(bell) => Begun::Waits(awaited, bell),
+            None => {
+                let _left = self.leave(rt, ticket);
+                *front = self.front.again();
+                Begun::Refused(Refused::Memory)
+            }
+        }
+    }
+
+    /// A seat for whoever waits, and its bell. `None` and no change out of memory.
+    fn sit(&mut self, awaited: &Awaited) -> Option<Arc<Condvar>>
+        requires { ∥ IsAwaited self.old.desk.work.waiters awaited.now.ticket.0 awaited.now.call ∥₁ }
+        ensures desk { self.new.desk ≡ self.old.desk }
+        ensures front { self.new.front ≡ self.old.front }
+    {
+        let Ok(bell) = Arc::new(self.alloc, Condvar::new()) else {
+            return None;
+        };
+        let Ok(own) = Arc::clone(&bell) else {
+            return None;
+        };
+        let seat = Seat::new(awaited, own);
+        if put(&mut self.seats, awaited.ticket, seat) {
+            Some(bell)
+        } else {
+            None
+        }
+    }
+
+    /// Whoever waits with the ticket does so no longer: its task is given up. `Gone` and no change where nobody does.
+    fn leave<R: Wait>(&mut self, rt: &R, ticket: Ticket) -> Result<(), Refused>
+        ensures left { OnOk result (self.new.front ≡ self.old.front ++ (ticket, Became.Left) ∷ []) }
+        ensures is_left { OnOk result (IsLeft self.new.front ticket) }
+        ensures waited { waiting_at self.old.desk.work.waiters ticket.0 ≢ None → result ≡ Ok tt }
+    {
+        let Ok(()) = self.desk.leave(ticket) else {
+            return Err(Refused::Gone);
+        };
+        self.front.add(rt, &self.head, &self.desk);
+        remove(&mut self.seats, ticket);
+        Ok(())
+    }
+
+    /// What whoever waits for this is told, who is shown the history that has it, and rises. `None` and no change where
+    /// there is nothing yet.
+    pub(crate) fn look(
+        &mut self,
+        awaited: &Awaited,
+        front: &mut Front<N>,
+    ) -> Option<Result<Answer, Refused>>
+        ensures told { IfSome result (λ answer. ∥ IsTold front.new awaited.now.ticket awaited.now.call answer ∥₁) }
+        ensures grows { Begins front.old front.new }
+        ensures nothing { result ≡ None → front.new ≡ front.old }
+    {
+        let seat = self.seats.get(&awaited.ticket.0)?;
+        let answer = seat.hear(awaited, front)?;
+        remove(&mut self.seats, awaited.ticket);
+        Some(answer)
+    }
+
+    #[tactic(auto, using(crate::proofs::Histories::left_longer))]
+    /// Whoever waits for this does so no longer, and is shown that its task was given up. `false` and no change where it
+    /// was told what became of it, or is to be.
+    pub(crate) fn give_up<R: Wait>(
+        &mut self,
+        rt: &R,
+        awaited: &Awaited,
+        front: &mut Front<N>,
+    ) -> bool
+        ensures left { result ≡ true → IsLeft front.new awaited.now.ticket }
+        ensures grows { Begins front.old front.new }
+        ensures kept { result ≡ false → front.new ≡ front.old }
+    {
+        match self.leave(rt, awaited.ticket) {
+            Ok(()) => {
+                front.learn(&self.front);
+                true
+            }
+            Err(_) => false,
+        }
+    }
+
+    /// Nothing is entered from now on, and each that waits is told so.
+    pub(crate) fn close<R: Wait>(&mut self, rt: &R) {
+        self.desk.close();
+        self.front.add(rt, &self.head, &self.desk);
+        self.hand_out();
+    }
+
+    /// Each of whom something became is told, and called.
+    fn hand_out(&mut self)
+        ensures front { self.new.front ≡ self.old.front }
+    {
+        while self.hand_one() {}
+    }
+
+    /// The next one is. `false` where there is none.
+    fn hand_one(&mut self) -> bool
+        ensures front { self.new.front ≡ self.old.front }
+        ensures fewer { result ≡ true → length self.new.desk.work.waiters.told.items
+            < length self.old.desk.work.waiters.told.items }
+    {
+        let Some(told) = self.desk.told() else {
+            return false;
+        };
+        tell(
+            &mut self.seats,
+            told.ticket,
+            told.answer,
+            self.front.again(),
+        );
+        true
+    }
+}

@@ -1,0 +1,192 @@
+//! Calls from any thread.
+
+ghost use Rattle.std.specs.Prelude.{◌≡◌, ◌≢◌, [], Err, IfSome, None};
+ghost use Rattle.std.specs.Coded.{codes};
+ghost use Rattle.txn.specs.Codes.{coded_listing};
+ghost use Rattle.txn_programs.specs.Listing.{IsCallable};
+ghost use Rattle.stm_store.specs.declared.answers.Refused.TheVariants as Refused;
+ghost use Rattle.stm_store.specs.declared.answers.Way.TheVariants as Way;
+ghost use Rattle.stm_desk.specs.Asking.{IsStill};
+ghost use Rattle.stm_desk.specs.History.{Begins};
+ghost use Rattle.stm_sharing.specs.Telling.{IsAnswered, IsTold};
+
+use crate::behind::{Begun, Behind};
+use crate::front::{Front, Opened};
+use crate::name::Naming;
+use crate::seat::Awaited;
+use std::alloc::Global;
+use std::sync::{Condvar, Mutex, Wait};
+use stm_desk::Answer;
+use stm_store::{Refused, Store, Way};
+use txn::{Arguments, Call, Catalogue, TxId};
+
+/// A store that threads share: each call runs a transaction as one atomic step, and is told where in the one history
+/// of the service its entry stands.
+#[derive(Drop)]
+pub struct Service<N: Naming> {
+    pub(crate) catalogue: &'static Catalogue,
+    pub(crate) behind: Mutex<Behind<N>>,
+    ghost named: { catalogue.now ≡ N.catalogue } by { Prim.hlevel (codes, coded_listing) },
+}
+
+impl<N: Naming> Service<N> {
+    /// The service of a store, whose ready tasks have had their turns then, and a front that has seen nothing of it.
+    /// None of the store's tasks may be running.
+    ///
+    /// A host is generic in the name `N`, and calls itself with the store's program and values, and with the history
+    /// that it opened, for it.
+    pub fn open<R: Wait>(
+        rt: &R,
+        alloc: Global,
+        store: Store,
+        opened: Opened,
+    ) -> (Service<N>, Front<N>)
+        requires named { store.catalogue.now ≡ N.catalogue }
+        requires placed { store.book.present.state ≡ N.first }
+        requires book { opened.seen.book ≡ N.book }
+        requires still { IsStill store }
+        ensures { result.1 ≡ [] }
+    {
+        let catalogue = store.catalogue();
+        let (behind, front) = Behind::new(rt, alloc, store, opened);
+        let service = Service {
+            catalogue,
+            behind: Mutex::new(behind),
+        };
+        (service, front)
+    }
+
+    /// Runs the transaction with these arguments as one atomic step. Where it retries the calling thread waits until
+    /// its task has been entered. The answer is its entry, which stands in the history behind all that the front had
+    /// seen; the front has then seen it.
+    ///
+    /// `Unknown` exactly where there is no such transaction, or it has not as many parameters as there are arguments.
+    /// `Memory`: a growth was refused, and its task was given up, which the front has then seen. `NoRoom`: the chapter
+    /// has no room for a task more. `Closed`: the service is closed. It is never another one.
+    pub fn atomically<R: Wait>(
+        &self,
+        rt: &R,
+        tx: TxId,
+        arguments: &[i64],
+        front: &mut Front<N>,
+    ) -> Result<Answer, Refused>
+        ensures answered { ∥ IsAnswered N.catalogue N.first front.old
+            (record { tx = tx; arguments = arguments.now }) Way.Waits result front.new ∥₁ }
+        ensures grows { Begins front.old front.new }
+        ensures unknown { ¬ (IsCallable N.catalogue tx arguments.now) → result ≡ Err Refused.Unknown }
+    {
+        self.call(rt, tx, arguments, Way::Waits, front)
+    }
+
+    /// As `atomically`, but where the transaction retries the answer is `Retries`: it is not entered and never will
+    /// be, and retries on the values to which the history leads that the front has then seen.
+    pub fn try_atomically<R: Wait>(
+        &self,
+        rt: &R,
+        tx: TxId,
+        arguments: &[i64],
+        front: &mut Front<N>,
+    ) -> Result<Answer, Refused>
+        ensures answered { ∥ IsAnswered N.catalogue N.first front.old
+            (record { tx = tx; arguments = arguments.now }) Way.Tries result front.new ∥₁ }
+        ensures grows { Begins front.old front.new }
+        ensures unknown { ¬ (IsCallable N.catalogue tx arguments.now) → result ≡ Err Refused.Unknown }
+    {
+        self.call(rt, tx, arguments, Way::Tries, front)
+    }
+
+    /// Nothing is entered from now on: each call that waits is answered `Closed`, and so is every later one. What was
+    /// entered stays.
+    pub fn close<R: Wait>(&self, rt: &R) {
+        self.behind.lock(rt).close(rt);
+    }
+
+    /// Both, by the way.
+    fn call<R: Wait>(
+        &self,
+        rt: &R,
+        tx: TxId,
+        arguments: &[i64],
+        way: Way,
+        front: &mut Front<N>,
+    ) -> Result<Answer, Refused>
+        ensures answered { ∥ IsAnswered N.catalogue N.first front.old
+            (record { tx = tx; arguments = arguments.now }) way result front.new ∥₁ }
+        ensures grows { Begins front.old front.new }
+        ensures unknown { ¬ (IsCallable N.catalogue tx arguments.now) → result ≡ Err Refused.Unknown }
+    {
+        self.catalogue.rules();
+        if !self.catalogue.is_callable(tx, arguments) {
+            return Err(Refused::Unknown);
+        }
+        let call = Call {
+            tx,
+            arguments: Arguments::of(arguments),
+        };
+        self.call_known(rt, &call, way, front)
+    }
+
+    /// The same of a call that can be made.
+    fn call_known<R: Wait>(
+        &self,
+        rt: &R,
+        call: &Call,
+        way: Way,
+        front: &mut Front<N>,
+    ) -> Result<Answer, Refused>
+        requires known { IsCallable N.catalogue call.now.tx call.now.arguments }
+        ensures answered { ∥ IsAnswered N.catalogue N.first front.old call.now way result front.new ∥₁ }
+        ensures grows { Begins front.old front.new }
+    {
+        for _ in rt.forever() {
+            if let Some(answer) = self.call_once(rt, call, way, front) {
+                return answer;
+            }
+        }
+        unreachable!()
+    }
+
+    /// The same. `None` and no change where its caller has seen more than there is, which is never so.
+    fn call_once<R: Wait>(
+        &self,
+        rt: &R,
+        call: &Call,
+        way: Way,
+        front: &mut Front<N>,
+    ) -> Option<Result<Answer, Refused>>
+        requires known { IsCallable N.catalogue call.now.tx call.now.arguments }
+        ensures answered { IfSome result
+            (λ answer. ∥ IsAnswered N.catalogue N.first front.old call.now way answer front.new ∥₁) }
+        ensures grows { Begins front.old front.new }
+        ensures ahead { result ≡ None → front.new ≡ front.old }
+    {
+        let begun = self.behind.lock(rt).call(rt, call, way, front);
+        match begun {
+            Begun::Ended(answer) => Some(Ok(answer)),
+            Begun::Waits(awaited, bell) => Some(self.wait_for(rt, &awaited, &bell, front)),
+            Begun::Refused(why) => Some(Err(why)),
+            Begun::Ahead => None,
+        }
+    }
+
+    /// Waits until the call is told what became of it.
+    fn wait_for<R: Wait>(
+        &self,
+        rt: &R,
+        awaited: &Awaited,
+        bell: &Condvar,
+        front: &mut Front<N>,
+    ) -> Result<Answer, Refused>
+        ensures told { ∥ IsTold front.new awaited.now.ticket awaited.now.call result ∥₁ }
+        ensures grows { Begins front.old front.new }
+    {
+        let mut behind = self.behind.lock(rt);
+        for _ in rt.forever() {
+            if let Some(answer) = behind.look(awaited, front) {
+                return answer;
+            }
+            behind = bell.wait(rt, behind);
+        }
+        unreachable!()
+    }
+}

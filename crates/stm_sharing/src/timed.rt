@@ -1,0 +1,144 @@
+//! Calls that wait for a time at most.
+
+ghost use Rattle.std.specs.Prelude.{◌≡◌, Err, IfSome, None};
+ghost use Rattle.txn_programs.specs.Listing.{IsCallable};
+ghost use Rattle.stm_store.specs.declared.answers.Refused.TheVariants as Refused;
+ghost use Rattle.stm_desk.specs.History.{Begins};
+ghost use Rattle.stm_sharing.specs.Telling.{IsAnsweredWithin, IsToldWithin};
+
+use crate::behind::Begun;
+use crate::front::Front;
+use crate::name::Naming;
+use crate::seat::Awaited;
+use crate::service::Service;
+use std::sync::{Condvar, Wait};
+use std::time::{Clock, Duration, Instant};
+use stm_desk::Answer;
+use stm_store::{Refused, Way};
+use txn::{Arguments, Call, TxId};
+
+/// The time that a call may take.
+#[derive(Clone, Copy)]
+struct Time {
+    /// `None` where the clock could not be read.
+    start: Option<Instant>,
+    length: Duration,
+}
+
+impl Time {
+    /// So long from now on.
+    fn from_now(clock: &impl Clock, length: Duration) -> Time {
+        Time {
+            start: Instant::now(clock).ok(),
+            length,
+        }
+    }
+
+    /// How much of it is left. `None` where it is up, or the clock cannot be read.
+    fn left(&self, clock: &impl Clock) -> Option<Duration> {
+        let left = self.length.checked_sub(self.start?.elapsed(clock).ok()?)?;
+        if left.is_zero() { None } else { Some(left) }
+    }
+}
+
+impl<N: Naming> Service<N> {
+    /// As `atomically`, for at most this time: then the answer is `TimedOut`, and its task was given up, which the
+    /// front has then seen. Where its task was entered before, its entry is the answer.
+    pub fn atomically_within<R: Wait + Clock>(
+        &self,
+        rt: &R,
+        time: Duration,
+        tx: TxId,
+        arguments: &[i64],
+        front: &mut Front<N>,
+    ) -> Result<Answer, Refused>
+        ensures answered { ∥ IsAnsweredWithin N.catalogue N.first front.old
+            (record { tx = tx; arguments = arguments.now }) result front.new ∥₁ }
+        ensures grows { Begins front.old front.new }
+        ensures unknown { ¬ (IsCallable N.catalogue tx arguments.now) → result ≡ Err Refused.Unknown }
+    {
+        let time = Time::from_now(rt, time);
+        self.catalogue.rules();
+        if !self.catalogue.is_callable(tx, arguments) {
+            return Err(Refused::Unknown);
+        }
+        let call = Call {
+            tx,
+            arguments: Arguments::of(arguments),
+        };
+        self.call_within(rt, &call, time, front)
+    }
+
+    /// The same of a call that can be made.
+    fn call_within<R: Wait + Clock>(
+        &self,
+        rt: &R,
+        call: &Call,
+        time: Time,
+        front: &mut Front<N>,
+    ) -> Result<Answer, Refused>
+        requires known { IsCallable N.catalogue call.now.tx call.now.arguments }
+        ensures answered { ∥ IsAnsweredWithin N.catalogue N.first front.old call.now result front.new ∥₁ }
+        ensures grows { Begins front.old front.new }
+    {
+        for _ in rt.forever() {
+            if let Some(answer) = self.try_within(rt, call, time, front) {
+                return answer;
+            }
+        }
+        unreachable!()
+    }
+
+    /// The same. `None` and no change where its caller has seen more than there is, which is never so.
+    fn try_within<R: Wait + Clock>(
+        &self,
+        rt: &R,
+        call: &Call,
+        time: Time,
+        front: &mut Front<N>,
+    ) -> Option<Result<Answer, Refused>>
+        requires known { IsCallable N.catalogue call.now.tx call.now.arguments }
+        ensures answered { IfSome result
+            (λ answer. ∥ IsAnsweredWithin N.catalogue N.first front.old call.now answer front.new ∥₁) }
+        ensures grows { Begins front.old front.new }
+        ensures ahead { result ≡ None → front.new ≡ front.old }
+    {
+        let begun = self.behind.lock(rt).call(rt, call, Way::Waits, front);
+        match begun {
+            Begun::Ended(answer) => Some(Ok(answer)),
+            Begun::Waits(awaited, bell) => Some(self.wait_within(rt, &awaited, &bell, time, front)),
+            Begun::Refused(why) => Some(Err(why)),
+            Begun::Ahead => None,
+        }
+    }
+
+    /// Waits until the call is told what became of it, or its time is up.
+    fn wait_within<R: Wait + Clock>(
+        &self,
+        rt: &R,
+        awaited: &Awaited,
+        bell: &Condvar,
+        time: Time,
+        front: &mut Front<N>,
+    ) -> Result<Answer, Refused>
+        ensures told { ∥ IsToldWithin front.new awaited.now.ticket awaited.now.call result ∥₁ }
+        ensures grows { Begins front.old front.new }
+    {
+        let mut behind = self.behind.lock(rt);
+        for _ in rt.forever() {
+            if let Some(answer) = behind.look(awaited, front) {
+                return answer;
+            }
+            behind = match time.left(rt) {
+                Some(left) => bell.wait_timeout(rt, behind, left).0,
+                None => {
+                    if behind.give_up(rt, awaited, front) {
+                        return Err(Refused::TimedOut);
+                    }
+                    bell.wait(rt, behind)
+                }
+            };
+        }
+        unreachable!()
+    }
+}
