@@ -247,7 +247,6 @@ impl<N: Naming> Behind<N> {
         Some(answer)
     }
 
-    #[tactic(auto, using(crate::proofs::Histories::left_longer))]
     /// Whoever waits for this does so no longer, and is shown that its task was given up. `false` and no change where it
     /// was told what became of it, or is to be.
     pub(crate) fn give_up<R: Wait>(

@@ -1,0 +1,14 @@
+use denote.Param.Send.{sendable}
+use Rattle.std.proofs.Crossing.{crosses}
+use Rattle.stm_sharing.proofs.Crossing.{service_sync}
+use Rattle.stm_sharing.proofs.front.Front.TheSendSync as front
+use Rattle.stm_sharing_tests.proofs.played.Step.TheSendSync as step
+use Rattle.stm_sharing_tests.proofs.played.side_by_side.Goals as goal
+
+pub map_indices-all-requires-sync-F : goal.map_indices-all-requires-sync-F
+map_indices-all-requires-sync-F g c κs within =
+    let a = step.the_send in
+    let b = step.the_sync in
+    let s = service_sync _ g.N.Naming c.type_bounds.send-N in
+    let f = front.the_sync g.row.N g.N.Naming in
+    search (sendable, crosses) depth 20

@@ -1,0 +1,7 @@
+//! Tests of calls from any thread on one desk: each says what threads do side by side, and what they are answered.
+#![tactic(auto)]
+
+#[cfg(test)]
+mod calls;
+#[cfg(test)]
+mod played;
