@@ -7,7 +7,6 @@ use Rattle.std.proofs.MapsCrossing as maps
 use Rattle.std.specs.contracts.sync.Mutex as mutex
 use Rattle.book.proofs.Crossing.{catalogue_sync}
 use Rattle.stm_desk.proofs.Crossing.{desk_send}
-use Rattle.stm_desk.proofs.answers.Answer.TheSendSync as answer
 use Rattle.stm_sharing.specs.declared.name.Naming.{Ghosts}
 use Rattle.stm_sharing.proofs.front.Front.TheSendSync as front
 use Rattle.stm_sharing.proofs.front.Head.TheSendSync as head
