@@ -11,14 +11,13 @@ use Rattle.stm_store.specs.declared.answers.Refused.{Refused}
 use Rattle.stm_store.specs.declared.answers.Refused.TheVariants as refused
 use Rattle.stm_store.specs.declared.answers.Way.{Way}
 use Rattle.stm_store.specs.declared.answers.Way.TheVariants as ways
-use Rattle.stm_store.specs.declared.job.Job.{Job}
 use Rattle.stm_store.specs.declared.job.Ticket.{Ticket}
 use Rattle.stm_store.specs.declared.store.Store.{Store}
 use Rattle.stm_desk.specs.declared.answers.Answer.{Answer}
 use Rattle.stm_desk.specs.declared.answers.Became.TheVariants as became
 use Rattle.stm_desk.specs.declared.desk.Desk.{Desk}
 use Rattle.stm_desk.specs.Answering.{IsAsked, IsEnteredNext, history_of}
-use Rattle.stm_desk.specs.Asking.{call_of, next_ticket}
+use Rattle.stm_desk.specs.Asking.{next_ticket}
 use Rattle.stm_desk.specs.History.{Begins, History, IsLegal, led}
 use Rattle.stm_desk.specs.Keeping.{Accounts}
 use Rattle.stm_sharing.specs.declared.behind.Begun.{Begun}
@@ -137,8 +136,4 @@ waiting_begun l m before now call way (begun.Refused refused.Retries) waits h = 
 waiting_begun l m before now call way (begun.Refused refused.Closed) waits h = absurd h
 waiting_begun l m before now call way (begun.Refused refused.TimedOut) waits h = absurd h
 waiting_begun l m before now call way (begun.Ended a) waits h = absurd h
-waiting_begun l m before now call way begun.Ahead waits h = absurd h
-
--- the job that runs for a call can be run by the name
-pub job_known : (l : Listing) (job : Job) (call : Call) → call_of job ≡ call → IsCallable l call.tx call.arguments → IsCallable l job.tx job.arguments
-job_known l job call is can = subst (λ (c : Call). IsCallable l c.tx c.arguments) (sym is) can
+waiting_begun l m before now call way begun.Again waits h = absurd h

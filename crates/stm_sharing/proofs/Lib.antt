@@ -5,4 +5,5 @@ pub mod Histories
 pub mod Waiting
 pub mod Asking
 pub mod InTime
+pub mod Chapters
 pub mod Crossing

@@ -32,7 +32,7 @@ IsWaiting before call _ now = ⊥
 
 -- it was answered, and its caller has seen why; or its caller waits, or is to call again, and has seen nothing more
 abbrev pub IsBegun : Listing → State → History → Call → Way → Begun → History → Type 0
-IsBegun l first before call way begun.Ahead now = now ≡ before
+IsBegun l first before call way begun.Again now = now ≡ before
 IsBegun l first before call way (begun.Waits awaited bell) now =
     (way ≡ ways.Waits) × (now ≡ before) × (awaited.call ≡ call) × IsNew before awaited.ticket
 IsBegun l first before call way (begun.Ended a) now = Begins before now × IsEnteredBehind before call a now

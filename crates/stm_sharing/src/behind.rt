@@ -7,6 +7,7 @@ ghost use Rattle.std.specs.Coded.{codes};
 ghost use Rattle.std.specs.Ordering.{nat_cmp};
 ghost use Rattle.txn.specs.Codes.{coded_listing};
 ghost use Rattle.stm_desk.specs.Answering.{history_of};
+ghost use Rattle.stm_desk.specs.declared.ended.Last.TheVariants as Last;
 ghost use Rattle.stm_sharing.specs.Telling.{IsAwaited};
 
 use crate::front::{Front, Head, Opened};
@@ -16,7 +17,7 @@ use std::alloc::Global;
 use std::collections::BTreeMap;
 use std::sync::{Arc, Condvar, Wait};
 use stm_desk::{Answer, Asked, Desk};
-use stm_store::{Job, Refused, Store, Ticket, Way};
+use stm_store::{Refused, Store, Ticket, Way};
 use txn::Call;
 
 /// A desk under a name, with all that its history shows, and a seat for each thread that waits.
@@ -29,6 +30,8 @@ pub(crate) struct Behind<N: Naming> {
     seats: BTreeMap<u64, Seat<N>>,
     ghost named: { desk.work.first.value.catalogue.now ≡ N.catalogue } by { Prim.hlevel (codes, coded_listing) },
     ghost placed: { desk.work.first.value.book.present.state ≡ N.first },
+    ghost short: { desk.work.long.items ≡ [] },
+    ghost kept: { ∥ desk.work.last ≡ Last.Kept ∥₁ },
     ghost shown: { front ≡ desk.work.history.items },
     ghost seated: { (ticket : ℕ) → ForSome (get nat_cmp seats ticket) (λ seat. (seat.ticket.0 ≡ ticket)
         × (seat.heard ≡ None → ∥ IsAwaited desk.work.waiters ticket seat.call ∥₁)) },
@@ -54,14 +57,16 @@ pub(crate) enum Begun {
     /// Its thread waits for this, until the bell rings.
     Waits(Awaited, Arc<Condvar>),
     Refused(Refused),
-    /// Its caller has seen more than there is, which is never so.
-    Ahead,
+    /// It is to be made again: the chapter was full, and the next one has begun; or its caller has seen more than there
+    /// is, which is never so.
+    Again,
 }
 
 impl<N: Naming> Behind<N> {
-    ghost use Rattle.std.specs.Prelude.{List, ℤ};
-    ghost use Rattle.txn_programs.specs.declared.ast.TxId.{TxId};
-    ghost use Rattle.txn_programs.specs.Listing.{IsCallable};
+    ghost use Rattle.std.specs.Prelude.{Err};
+    ghost use Rattle.stm_store.specs.Asking.{HasRoomNext};
+    ghost use Rattle.stm_store.specs.Working.{next_number};
+    ghost use Rattle.stm_store.specs.declared.answers.Refused.TheVariants as Refused;
     ghost use Rattle.stm_desk.specs.declared.answers.Became.TheVariants as Became;
     ghost use Rattle.stm_desk.specs.Answering.{IsAsked};
     ghost use Rattle.stm_desk.specs.Asking.{IsStill};
@@ -69,6 +74,7 @@ impl<N: Naming> Behind<N> {
     ghost use Rattle.stm_desk.specs.Keeping.{IsLeft};
     ghost use Rattle.stm_desk.specs.Waiting.{waiting_at};
     ghost use Rattle.stm_sharing.specs.Beginning.{IsBegun, IsNew, IsWaiting, WaitsWith};
+    ghost use Rattle.stm_sharing.specs.declared.behind.Begun.TheVariants as Begun;
     ghost use Rattle.stm_sharing.specs.Telling.{IsTold};
 
     /// The desk of a store, whose ready tasks have had their turns then, and a front that has seen nothing.
@@ -98,7 +104,9 @@ impl<N: Naming> Behind<N> {
         (behind, first)
     }
 
-    /// A call, whose caller has seen this, and is shown all that there is where the call is answered.
+    /// A call, whose caller has seen this, and is shown all that there is where the call is answered. Where the chapter
+    /// has no room for it, and the next one has some, that one begins; so there is none only where each place is of a
+    /// task that waits.
     pub(crate) fn call<R: Wait>(
         &mut self,
         rt: &R,
@@ -106,11 +114,11 @@ impl<N: Naming> Behind<N> {
         way: Way,
         front: &mut Front<N>,
     ) -> Begun
-        requires known { IsCallable N.catalogue call.now.tx call.now.arguments }
-        ensures { IsBegun N.catalogue N.first front.old call.now way result front.new }
+        ensures begun { IsBegun N.catalogue N.first front.old call.now way result front.new }
+        ensures full { result ≡ Begun.Refused Refused.NoRoom → HasRoomNext self.new.desk.work.store → ⊥ }
     {
         if !self.front.covers(front) {
-            return Begun::Ahead;
+            return Begun::Again;
         }
         match self.ask(rt, call, way) {
             Ok(Asked::Ended(answer)) => {
@@ -119,11 +127,11 @@ impl<N: Naming> Behind<N> {
                 Begun::Ended(answer)
             }
             Ok(Asked::Waits(ticket)) => self.wait(rt, ticket, call, front),
-            Ok(Asked::Runs(job)) => self.run(rt, job, call, front),
             Ok(Asked::ChapterFull) => {
-                *front = self.front.again();
-                Begun::Refused(Refused::NoRoom)
+                self.begin_chapter(rt);
+                Begun::Again
             }
+            Ok(Asked::Runs(_)) => unreachable!(),
             Err(why) => {
                 *front = self.front.again();
                 Begun::Refused(why)
@@ -135,6 +143,7 @@ impl<N: Naming> Behind<N> {
     fn ask<R: Wait>(&mut self, rt: &R, call: &Call, way: Way) -> Result<Asked, Refused>
         ensures asked { IsAsked self.old.desk call.now way 0 result self.new.desk }
         ensures grows { Begins self.old.front self.new.front }
+        ensures full { result ≡ Err Refused.NoRoom → HasRoomNext self.new.desk.work.store → ⊥ }
     {
         self.desk.store().law();
         let asked = self.desk.ask(call.tx, call.arguments.as_slice(), way, 0);
@@ -142,37 +151,17 @@ impl<N: Naming> Behind<N> {
         asked
     }
 
-    /// The long call that runs has its turn here, and its caller waits for what came of it.
-    fn run<R: Wait>(&mut self, rt: &R, job: Job, call: &Call, front: &mut Front<N>) -> Begun
-        requires known { IsCallable N.catalogue job.tx job.arguments }
-        requires waits { WaitsWith self.old.desk.work.waiters job.ticket call.now }
-        requires is_new { IsNew front.old job.ticket }
-        requires covers { Begins front.old self.old.front }
-        ensures { IsWaiting front.old call.now result front.new }
+    /// The next chapter begins, in which who waits waits on; of the one before nobody keeps anything.
+    fn begin_chapter<R: Wait>(&mut self, rt: &R)
+        ensures next { self.new.desk.work.store.chapter ≡ next_number self.old.desk.work.store.chapter }
     {
-        let begun = self.wait(rt, job.ticket, call, front);
-        self.run_now(rt, job);
-        begun
-    }
-
-    /// A running task has its turn here, where it still runs, and then what that woke.
-    fn run_now<R: Wait>(&mut self, rt: &R, job: Job)
-        requires known { IsCallable N.catalogue job.tx job.arguments }
-    {
-        self.known();
-        // Else what became of it was told.
-        let _ran = self.desk.run_now(job);
-        self.front.add(rt, &self.head, &self.desk);
-        self.hand_out();
-    }
-
-    /// The desk's program is the one that its name says. It does nothing: its contract is the law.
-    fn known(&self)
-        ensures { (tx : TxId) (arguments : List ℤ) → IsCallable N.catalogue tx arguments
-            → IsCallable self.now.desk.work.store.catalogue.now tx arguments }
-    {
-        // To look at a field is to be told what the type keeps.
-        let _seats = self.seats.len();
+        match self.desk.begin_chapter() {
+            Ok(()) => {
+                self.front.add(rt, &self.head, &self.desk);
+                self.hand_out();
+            }
+            Err(_) => unreachable!(),
+        }
     }
 
     /// Whoever called waits from now on. Out of memory its task is given up.
@@ -278,6 +267,7 @@ impl<N: Naming> Behind<N> {
     /// Each of whom something became is told, and called.
     fn hand_out(&mut self)
         ensures front { self.new.front ≡ self.old.front }
+        ensures store { self.new.desk.work.store ≡ self.old.desk.work.store }
     {
         while self.hand_one() {}
     }
@@ -285,6 +275,7 @@ impl<N: Naming> Behind<N> {
     /// The next one is. `false` where there is none.
     fn hand_one(&mut self) -> bool
         ensures front { self.new.front ≡ self.old.front }
+        ensures store { self.new.desk.work.store ≡ self.old.desk.work.store }
         ensures fewer { result ≡ true → length self.new.desk.work.waiters.told.items
             < length self.old.desk.work.waiters.told.items }
     {

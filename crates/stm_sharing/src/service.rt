@@ -61,8 +61,9 @@ impl<N: Naming> Service<N> {
     /// seen; the front has then seen it.
     ///
     /// `Unknown` exactly where there is no such transaction, or it has not as many parameters as there are arguments.
-    /// `Memory`: a growth was refused, and its task was given up, which the front has then seen. `NoRoom`: the chapter
-    /// has no room for a task more. `Closed`: the service is closed. It is never another one.
+    /// `Memory`: a growth was refused, and its task was given up, which the front has then seen. `NoRoom`: each place
+    /// is of a task that waits; where a chapter is full, but the next one has room, that one begins. `Closed`: the
+    /// service is closed. It is never another one.
     pub fn atomically<R: Wait>(
         &self,
         rt: &R,
@@ -134,7 +135,6 @@ impl<N: Naming> Service<N> {
         way: Way,
         front: &mut Front<N>,
     ) -> Result<Answer, Refused>
-        requires known { IsCallable N.catalogue call.now.tx call.now.arguments }
         ensures answered { ∥ IsAnswered N.catalogue N.first front.old call.now way result front.new ∥₁ }
         ensures grows { Begins front.old front.new }
     {
@@ -146,7 +146,7 @@ impl<N: Naming> Service<N> {
         unreachable!()
     }
 
-    /// The same. `None` and no change where its caller has seen more than there is, which is never so.
+    /// The same. `None` where it is to be made again, and the caller has seen nothing more.
     fn call_once<R: Wait>(
         &self,
         rt: &R,
@@ -154,18 +154,17 @@ impl<N: Naming> Service<N> {
         way: Way,
         front: &mut Front<N>,
     ) -> Option<Result<Answer, Refused>>
-        requires known { IsCallable N.catalogue call.now.tx call.now.arguments }
         ensures answered { IfSome result
             (λ answer. ∥ IsAnswered N.catalogue N.first front.old call.now way answer front.new ∥₁) }
         ensures grows { Begins front.old front.new }
-        ensures ahead { result ≡ None → front.new ≡ front.old }
+        ensures again { result ≡ None → front.new ≡ front.old }
     {
         let begun = self.behind.lock(rt).call(rt, call, way, front);
         match begun {
             Begun::Ended(answer) => Some(Ok(answer)),
             Begun::Waits(awaited, bell) => Some(self.wait_for(rt, &awaited, &bell, front)),
             Begun::Refused(why) => Some(Err(why)),
-            Begun::Ahead => None,
+            Begun::Again => None,
         }
     }
 

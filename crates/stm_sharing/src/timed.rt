@@ -77,7 +77,6 @@ impl<N: Naming> Service<N> {
         time: Time,
         front: &mut Front<N>,
     ) -> Result<Answer, Refused>
-        requires known { IsCallable N.catalogue call.now.tx call.now.arguments }
         ensures answered { ∥ IsAnsweredWithin N.catalogue N.first front.old call.now result front.new ∥₁ }
         ensures grows { Begins front.old front.new }
     {
@@ -89,7 +88,7 @@ impl<N: Naming> Service<N> {
         unreachable!()
     }
 
-    /// The same. `None` and no change where its caller has seen more than there is, which is never so.
+    /// The same. `None` where it is to be made again, and the caller has seen nothing more.
     fn try_within<R: Wait + Clock>(
         &self,
         rt: &R,
@@ -97,18 +96,17 @@ impl<N: Naming> Service<N> {
         time: Time,
         front: &mut Front<N>,
     ) -> Option<Result<Answer, Refused>>
-        requires known { IsCallable N.catalogue call.now.tx call.now.arguments }
         ensures answered { IfSome result
             (λ answer. ∥ IsAnsweredWithin N.catalogue N.first front.old call.now answer front.new ∥₁) }
         ensures grows { Begins front.old front.new }
-        ensures ahead { result ≡ None → front.new ≡ front.old }
+        ensures again { result ≡ None → front.new ≡ front.old }
     {
         let begun = self.behind.lock(rt).call(rt, call, Way::Waits, front);
         match begun {
             Begun::Ended(answer) => Some(Ok(answer)),
             Begun::Waits(awaited, bell) => Some(self.wait_within(rt, &awaited, &bell, time, front)),
             Begun::Refused(why) => Some(Err(why)),
-            Begun::Ahead => None,
+            Begun::Again => None,
         }
     }
 

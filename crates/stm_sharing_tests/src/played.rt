@@ -202,7 +202,7 @@ fn played_by<R: Threads + Wait + Clock + Sync, N: Naming + Sync>(
     side_by_side(rt, alloc, &service, &first, steps)
 }
 
-/// What the threads are answered, on a service of the buffer that was just opened.
+/// What the threads are answered, on a service of the buffer that was just opened. A chapter has room for eight tasks.
 pub(crate) fn played<R: Threads + Wait + Clock + Abort + Sync>(
     rt: &R,
     alloc: Global,
@@ -213,7 +213,7 @@ pub(crate) fn played<R: Threads + Wait + Clock + Abort + Sync>(
     };
     let tasks = program.catalogue().tasks();
     assert!(rt; tasks == 0);
-    let Ok(store) = Store::open_with_room(alloc, program, 0, 0, 2000) else {
+    let Ok(store) = Store::open_with_room(alloc, program, 0, 0, 8) else {
         panic!(rt; "no store");
     };
     played_by::<_, Brand>(rt, alloc, store, Opened::new(), steps)

@@ -13,20 +13,14 @@ wait-requires-clause-is_new g c κs within =
     let begins : Begins c.args.front.now (history_of s.desk) = subst (Begins c.args.front.now) s.shown c.if-not-covers.ensures in
     next_is_new s.desk c.args.front.now c.in-Ok-Waits.ticket begins (subst (λ (x : Asked). IsAsked s.desk c.args.call.now c.args.way 0 (Ok x) c.ask.new.self.desk) c.in-Ok-Waits.field-0-is c.in-Ok-Waits.ensures.asked).2.ticket_is
 
-pub run-requires-clause-is_new : goal.run-requires-clause-is_new
-run-requires-clause-is_new g c κs within =
-    let s = c.args.self.now in
-    let begins : Begins c.args.front.now (history_of s.desk) = subst (Begins c.args.front.now) s.shown c.if-not-covers.ensures in
-    next_is_new s.desk c.args.front.now c.in-Ok-Runs.job.ticket begins (subst (λ (x : Asked). IsAsked s.desk c.args.call.now c.args.way 0 (Ok x) c.ask.new.self.desk) c.in-Ok-Runs.field-0-is c.in-Ok-Runs.ensures.asked).3.ticket
-
-pub returns-in-Ok-Ended : goal.returns-in-Ok-Ended
-returns-in-Ok-Ended g c =
+pub returns-in-Ok-Ended-clause-begun : goal.returns-in-Ok-Ended-clause-begun
+returns-in-Ok-Ended-clause-begun g c =
     let s = c.args.self.now in
     let begins : Begins c.args.front.now (history_of s.desk) = subst (Begins c.args.front.now) s.shown c.if-not-covers.ensures in
     ended_begun s.desk c.ask.new.self.desk c.args.front.now c.again.result c.args.call.now c.in-Ok-Ended.answer begins (c.again.ensures ∙ c.ask.new.self.shown) (subst (λ (x : Asked). IsAsked s.desk c.args.call.now c.args.way 0 (Ok x) c.ask.new.self.desk) c.in-Ok-Ended.field-0-is c.in-Ok-Ended.ensures.asked).1
 
-pub returns-in-Err : goal.returns-in-Err
-returns-in-Err g c =
+pub returns-in-Err-clause-begun : goal.returns-in-Err-clause-begun
+returns-in-Err-clause-begun g c =
     let s = c.args.self.now in
     let l = g.N.Naming.catalogue in
     let m = g.N.Naming.first in

@@ -4,6 +4,7 @@ use Rattle.stm_desk.specs.Answering.{history_of}
 use Rattle.stm_desk.specs.History.{Begins, History}
 use Rattle.stm_sharing.proofs.Asking.{legal_on}
 use Rattle.stm_sharing.proofs.Waiting.{awaited_on, carries_hands_on}
+use Rattle.stm_sharing.proofs.Chapters.{kept_on}
 use Rattle.stm_sharing.proofs.behind.Behind.close.Goals as goal
 
 pub add-requires-clause-legal : goal.add-requires-clause-legal
@@ -23,3 +24,8 @@ invariant_of-self-clause-seated g c t seat at =
     let new = c.close.new.self in
     let old = s.seated t seat at in
     (old.0, λ none. ∥∥₁_map (old.1 none) (awaited_on s.desk.work.waiters new.work.waiters t seat.call (carries_hands_on s.desk.work.waiters new.work.waiters c.close.ensures.told.hands_on)))
+
+pub invariant_of-self-clause-kept : goal.invariant_of-self-clause-kept
+invariant_of-self-clause-kept g c =
+    let s = c.args.self.now in
+    kept_on s.desk.work c.close.new.self.work c.close.ensures.last s.kept

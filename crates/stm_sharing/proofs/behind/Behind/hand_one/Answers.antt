@@ -7,6 +7,7 @@ use Rattle.std.proofs.Math.Logic.{∥∥₁_map}
 use Rattle.stm_desk.specs.History.{History}
 use Rattle.stm_sharing.specs.Telling.{IsTold}
 use Rattle.stm_sharing.proofs.Waiting.{awaited_on, awaited_rest, carries_none, next_told}
+use Rattle.stm_sharing.proofs.Chapters.{kept_on}
 use Rattle.stm_sharing.proofs.behind.Behind.hand_one.Goals as goal
 
 pub invariant_of-self-clause-seated : goal.invariant_of-self-clause-seated
@@ -42,3 +43,13 @@ invariant_of-self-2-clause-seated g c t seat at =
           let old = s.seated t seat (sym (c.tell.ensures.others t apart) ∙ at) in
           (old.0, λ none. ∥∥₁_map (old.1 none) (awaited_rest w v told t seat.call apart c.in-Some.ensures.told (λ (n : ℕ). ap (λ m. get nat_cmp m n) c.told.ensures.waits)))
     ]
+
+pub invariant_of-self-clause-kept : goal.invariant_of-self-clause-kept
+invariant_of-self-clause-kept g c =
+    let s = c.args.self.now in
+    kept_on s.desk.work c.told.new.self.work c.told.ensures.last s.kept
+
+pub invariant_of-self-2-clause-kept : goal.invariant_of-self-2-clause-kept
+invariant_of-self-2-clause-kept g c =
+    let s = c.args.self.now in
+    kept_on s.desk.work c.told.new.self.work c.told.ensures.last s.kept

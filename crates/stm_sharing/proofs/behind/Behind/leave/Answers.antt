@@ -9,6 +9,7 @@ use Rattle.stm_desk.specs.History.{History}
 use Rattle.stm_sharing.proofs.Histories.{last_is}
 use Rattle.stm_sharing.proofs.Asking.{legal_on}
 use Rattle.stm_sharing.proofs.Waiting.{awaited_but, awaited_on, carries_equal, left_same_not, nothing_there}
+use Rattle.stm_sharing.proofs.Chapters.{kept_on}
 use Rattle.stm_sharing.proofs.behind.Behind.leave.Goals as goal
 
 pub add-requires-clause-legal : goal.add-requires-clause-legal
@@ -50,3 +51,13 @@ returns-clause-is_left g c =
     let s = c.args.self.now in
     let is = c.add.ensures ∙ (c.in-Ok.ensures.left.1.history ∙ ap (λ (x : History). x ++ (c.args.ticket, became.Left) ∷ []) (sym s.shown)) in
     record { place = length s.front; at_place = last_is s.front c.add.new.self c.args.ticket became.Left is }
+
+pub invariant_of-self-clause-kept : goal.invariant_of-self-clause-kept
+invariant_of-self-clause-kept g c =
+    let s = c.args.self.now in
+    kept_on s.desk.work c.leave.new.self.work c.leave.ensures.last s.kept
+
+pub invariant_of-self-2-clause-kept : goal.invariant_of-self-2-clause-kept
+invariant_of-self-2-clause-kept g c =
+    let s = c.args.self.now in
+    kept_on s.desk.work c.leave.new.self.work c.leave.ensures.last s.kept

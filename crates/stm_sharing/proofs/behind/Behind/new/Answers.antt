@@ -13,3 +13,6 @@ pub add-requires-clause-legal : goal.add-requires-clause-legal
 add-requires-clause-legal g c κs within =
     let first = c.open-desk.ensures.first in
     legal_of g.N.Naming.catalogue g.N.Naming.first c.open-desk.result (ap (λ s. s.catalogue.now) first ∙ c.requires.named) (ap (λ s. s.book.present.state) first ∙ c.requires.placed)
+
+pub invariant_of-behind-clause-kept : goal.invariant_of-behind-clause-kept
+invariant_of-behind-clause-kept g c = ∣ c.open-desk.ensures.last ∣₁

@@ -12,7 +12,7 @@ returns-in-Waits-clause-answered g c =
     let before = c.args.front.now in
     let now = c.wait_for.new.front in
     let call = c.args.call.now in
-    let begins : Begins before now = subst (λ (h : History). Begins h now) w.ensures.1 c.wait_for.ensures.grows in
+    let begins : Begins before now = subst (λ (h : History). Begins h now) w.ensures.begun.1 c.wait_for.ensures.grows in
     ∥∥₁_map c.wait_for.ensures.told (λ (k : IsTold now w.awaited.ticket w.awaited.call c.wait_for.result).
-    answered_waiting g.N.Naming.catalogue g.N.Naming.first before now w.awaited.ticket call c.args.way c.wait_for.result w.ensures.3 begins
-    (subst (λ (x : Call). IsTold now w.awaited.ticket x c.wait_for.result) w.ensures.2 k))
+    answered_waiting g.N.Naming.catalogue g.N.Naming.first before now w.awaited.ticket call c.args.way c.wait_for.result w.ensures.begun.3 begins
+    (subst (λ (x : Call). IsTold now w.awaited.ticket x c.wait_for.result) w.ensures.begun.2 k))
