@@ -33,7 +33,7 @@ typedef struct stm_desk_due {
 
 /* Opens the desk of a store, whose ready tasks have their turns: STM_DONE, and the store's handle is empty; its workers
  * were opened before, and go on. Which transactions are long is as `stm_program_long` tells. Else both handles are as
- * they were: STM_WORK_LEFT, where a task of the store is running; STM_MEMORY, STM_FULL. */
+ * they were: STM_WORK_LEFT, where a task of the store is running; STM_MEMORY, STM_FULL. It has 96 KB of stack. */
 int32_t stm_open_desk(stm_store *store, stm_desk *out);
 
 /* A call: a task of its own, which has its turn at once, and then all that it woke. `way` is as for `stm_call`.

@@ -8,12 +8,12 @@
  * every worker is taken, if others changed what it read in 8 tries, if it only tries, and if a chapter ends, or the
  * report or the file is asked for, before it is entered. What it answers is the same.
  *
- * What the host owes is what C leaves to it: pointers are to what is there; a thread that calls has 64 KB of stack; no
- * call is made from a signal handler; none is made after `stm_service_free`; and none in a forked child, for another
- * thread may have held the lock, and no child has that thread. There `stm_service_close` and `stm_service_free` do
- * nothing, so a child can let go what it has of its parent; what it wants to call it opens itself. Else all calls may
- * be made by any thread at any time, and none is a point where a thread is cancelled. It is over pthreads: link with
- * -pthread.
+ * What the host owes is what C leaves to it: pointers are to what is there; a thread that calls has 64 KB of stack, and
+ * one that opens a service 96 KB; no call is made from a signal handler; none is made after `stm_service_free`; and
+ * none in a forked child, for another thread may have held the lock, and no child has that thread. There
+ * `stm_service_close` and `stm_service_free` do nothing, so a child can let go what it has of its parent; what it wants
+ * to call it opens itself. Else all calls may be made by any thread at any time, and none is a point where a thread is
+ * cancelled. It is over pthreads: link with -pthread.
  *
  * A thread that has the lock makes the calls of those who ask too, mostly after up to 64 of its own in a row. A thread
  * that waits looks for some microseconds before it sleeps.

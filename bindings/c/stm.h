@@ -13,7 +13,8 @@
  *      goes with a length is to that many bytes, one that goes with a count to that many numbers.
  *   4. What a call may write (a handle that is not `const`, a room, `out`, `wanted`, `value`, `version`,
  *      `values`) overlaps nothing else that it is given.
- *   5. A call has 64 KB of stack, whatever the file: the deepest that the limits allow take less than two thirds.
+ *   5. A call has 64 KB of stack, whatever the file, and one that opens a desk 96 KB: the deepest files that the
+ *      limits allow take less than two thirds.
  *   6. No call is made from a signal handler, nor from the forked child of a process with threads.
  *
  * What stays in memory until the process ends: what a program says, once for each `stm_read`. All else goes

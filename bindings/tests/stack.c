@@ -1,5 +1,6 @@
 /* stack FILE [refused]: makes each kind of call on the file, on a stack that was painted before, and prints the bytes of it
- * that the most greedy call has touched. With a second word each call has to refuse the file for a name. */
+ * that the most greedy call has touched, and those that opening a desk has. With a second word each call has to refuse the
+ * file for a name. */
 #include "desk.h"
 
 #include <pthread.h>
@@ -8,7 +9,7 @@
 #include <string.h>
 #include <sys/mman.h>
 
-enum { SIZE = 1 << 20, PAINT = 0xa5, CALLS = 7 };
+enum { SIZE = 1 << 20, PAINT = 0xa5, OPENS = 6, CALLS = 8 };
 
 static uint8_t file[1 << 20], report[8388608], *room;
 static size_t length, report_length, wanted;
@@ -53,18 +54,23 @@ static void asks(stm_desk *desk, stm_worker *worker, uint32_t transaction, uint3
     stm_desk_next_due(desk);
 }
 
-/* A desk, which is asked for each transaction, and two chapters of it. */
-static int32_t desk(void) {
-    stm_program program = {0};
+static stm_program program;
+static stm_worker worker;
+static stm_desk desk;
+
+static int32_t opens(void) {
     stm_store store = {0};
-    stm_worker worker = {0};
-    stm_desk desk = {0};
-    stm_ended ended = {0};
     int32_t code = stm_read(file, length, &program);
     if (refused) return code;
     if (code != STM_DONE || stm_open(&program, 1, 3, &store) != STM_DONE) exit(2);
     stm_open_worker(&store, &worker);
-    if (stm_open_desk(&store, &desk) != STM_DONE) exit(2);
+    return stm_open_desk(&store, &desk);
+}
+
+/* The desk that was opened: it is asked for each transaction, in two chapters of it. */
+static int32_t works(void) {
+    stm_ended ended = {0};
+    if (refused) return STM_FILE_NAME;
     for (int chapter = 0; chapter < 2; chapter++) {
         for (uint32_t transaction = 0; transaction < stm_program_transactions(&program); transaction++)
             for (uint32_t way = STM_WAITS; way <= STM_TRIES; way++) asks(&desk, &worker, transaction, way);
@@ -91,7 +97,8 @@ static void *makes(void *unused) {
     case 3: code = stm_explore(file, length, 100, room, sizeof report, &wanted); break;
     case 4: code = stm_explore_to(file, length, 100, 1, room, sizeof report, &wanted); break;
     case 5: code = host(); break;
-    default: code = desk();
+    case OPENS: code = opens(); break;
+    default: code = works();
     }
     if (refused ? code != STM_FILE_NAME : code < 0) fprintf(stderr, "call %d answers %d\n", call, (int)code), exit(2);
     return unused;
@@ -113,7 +120,7 @@ static size_t used(void) {
 }
 
 int main(int count, char **words) {
-    size_t most = 0;
+    size_t most = 0, opening = 0;
     if (count < 2) return 9;
     FILE *input = fopen(words[1], "rb");
     if (!input) return 9;
@@ -123,9 +130,9 @@ int main(int count, char **words) {
     refused = count > 2;
     if (!room || (!refused && stm_run_one(file, length, 0, report, sizeof report, &report_length) != STM_DONE)) return 2;
     for (call = 0; call < CALLS; call++) {
-        size_t bytes = used();
-        if (bytes > most) most = bytes;
+        size_t bytes = used(), *of = call == OPENS ? &opening : &most;
+        if (bytes > *of) *of = bytes;
     }
-    printf("%zu\n", most);
+    printf("%zu %zu\n", most, opening);
     return 0;
 }
