@@ -14,8 +14,8 @@ use txn_evaluator::notes::Note;
 /// So many writes of a run take no memory.
 const FEW: usize = 64;
 
-/// What a run noted, and what it wrote, in room that is kept from one run to the next. A run that writes more often than
-/// one before it takes more.
+/// What a run noted, and what it wrote, in room that is kept from one run to the next. A run that writes more often
+/// than one before it takes more.
 #[derive(Drop)]
 pub struct Written {
     /// The notes of the run.

@@ -1,6 +1,6 @@
 //! Tests of the public calls of `runner` and `world_runner`: runs under gates and in lines, and writers that fail; of
-//! those of `run_interface`, by writers of its own; of those of `file_chains`, and of those of `txn::weights`. What runs
-//! and schedules print and why files are refused is played by `cases/`.
+//! those of `run_interface`, by writers of its own; of those of `file_chains`, and of those of `txn::weights`. What
+//! runs and schedules print and why files are refused is played by `cases/`.
 #![tactic(auto)]
 
 #[cfg(test)]

@@ -28,8 +28,8 @@ const MOVED_ONCE: &str =
 
 const THOUSAND: &str = "(var x 5)(tx inc (set x (add x 1)) x)(run inc 1000)";
 
-/// Files, where their reports begin and how these end, and the checkpoint: of a thousand tasks a journal that begins anew
-/// at 300 entries is that of the last 100.
+/// Files, where their reports begin and how these end, and the checkpoint: of a thousand tasks a journal that begins
+/// anew at 300 entries is that of the last 100.
 const SAME: &[(&str, &str, &str, u32)] = &[
     (BUFFER, PASSED_ON, PASSED_ON, 0),
     (MOVES, MOVED_ONCE, MOVED_ONCE, 0),

@@ -13,8 +13,8 @@ use stm_store::{End, Entered, Job, Refused};
 use txn::Outcome;
 
 /// The ticket of the task that it is about, -1 where there is none; a code; what was returned or thrown, or the number
-/// of a condition; the chapter in which the task is; the number of its entry there; and, of a call of a desk, the place of
-/// the entry in the history of all, from 0. Each is 0 where there is none.
+/// of a condition; the chapter in which the task is; the number of its entry there; and, of a call of a desk, the
+/// place of the entry in the history of all, from 0. Each is 0 where there is none.
 #[repr(C)]
 #[derive(Clone, Copy)]
 pub struct Answer {

@@ -17,8 +17,8 @@ use stm_desk::Desk;
 use txn::TxId;
 
 /// A call: a task of its own, which has its turn at once; then all that it woke have theirs. How it ended, with the
-/// place of its entry. 1 with a ticket: it waits; 1 with the ticket -1: a try retries, and nothing was entered. 14: it is
-/// long, and its task runs: `job` has its job, which the host evaluates. 17: the chapter has no room, and is to end
+/// place of its entry. 1 with a ticket: it waits; 1 with the ticket -1: a try retries, and nothing was entered. 14: it
+/// is long, and its task runs: `job` has its job, which the host evaluates. 17: the chapter has no room, and is to end
 /// before it is asked again. -19: the desk is closed; -9: there is no such transaction, or it wants another number of
 /// arguments; -14: no room; -6: out of memory; -12: the handle is empty. `job` stays with any answer but 14.
 #[unsafe(no_mangle)]
@@ -92,7 +92,8 @@ fn leave(desk: &mut Desk, ticket: i64) -> i32
     }
 }
 
-/// Each call that waits is told that the desk is closed, and nothing is entered from now on: 0. -12: the handle is empty.
+/// Each call that waits is told that the desk is closed, and nothing is entered from now on: 0. -12: the handle is
+/// empty.
 #[unsafe(no_mangle)]
 pub extern "C" fn stm_desk_close(desk: &mut DeskHandle) -> i32
     ensures { On desk.old.value desk.new.value EMPTY result

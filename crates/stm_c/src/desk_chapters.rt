@@ -12,8 +12,8 @@ use std::alloc::Global;
 use stm_desk::{Desk, Ended};
 
 /// The present chapter ends, and `out` has its file and its report: 0. -11: the host has one already, and did not say
-/// whether it was kept; -6: out of memory; -12, -13: the desk's handle is empty, or `out` is not. Else than with 0, `out`
-/// is as it was.
+/// whether it was kept; -6: out of memory; -12, -13: the desk's handle is empty, or `out` is not. Else than with 0,
+/// `out` is as it was.
 #[unsafe(no_mangle)]
 pub extern "C" fn stm_desk_end_chapter(
     alloc: Global,
@@ -78,8 +78,8 @@ fn begin_chapter(desk: &mut Desk) -> i32
     done(desk.begin_chapter())
 }
 
-/// The host kept the chapter: 0, and its handle is empty. -11, and no change: it is not the one that the host has of this
-/// desk; -12: one of the handles is empty.
+/// The host kept the chapter: 0, and its handle is empty. -11, and no change: it is not the one that the host has of
+/// this desk; -12: one of the handles is empty.
 #[unsafe(no_mangle)]
 pub extern "C" fn stm_desk_kept(
     alloc: Global,
@@ -108,8 +108,8 @@ fn kept(alloc: Global, desk: &mut Desk, ended: &mut EndedHandle) -> i32
     }
 }
 
-/// The host did not keep the chapter, which is given again: 0, and its handle is empty. -11, and no change: it is not the
-/// one that the host has of this desk; -12: one of the handles is empty.
+/// The host did not keep the chapter, which is given again: 0, and its handle is empty. -11, and no change: it is not
+/// the one that the host has of this desk; -12: one of the handles is empty.
 #[unsafe(no_mangle)]
 pub extern "C" fn stm_desk_not_kept(
     alloc: Global,

@@ -126,8 +126,8 @@ pub extern "C" fn stm_desk_entered(desk: &mut DeskHandle) -> u64
     held.store().entered()
 }
 
-/// What is long and runs has its turn, and then the report's text is copied into the room: 0, and `wanted` is how long it
-/// is. -6: out of memory. -8: the room is too short, and `wanted` is how much is needed. -12: the handle is empty.
+/// What is long and runs has its turn, and then the report's text is copied into the room: 0, and `wanted` is how long
+/// it is. -6: out of memory. -8: the room is too short, and `wanted` is how much is needed. -12: the handle is empty.
 #[unsafe(no_mangle)]
 pub extern "C" fn stm_desk_report(desk: &mut DeskHandle, room: &mut [u8], wanted: &mut usize) -> i32
     ensures report { On desk.old.value desk.new.value EMPTY result
@@ -157,8 +157,8 @@ fn report(desk: &mut Desk, room: &mut [u8], wanted: &mut usize) -> i32
     report_of(desk.store(), room, wanted)
 }
 
-/// What is long and runs has its turn, and then the file's text is copied into the room, as the report's is. -1: it would be
-/// longer than a file may be.
+/// What is long and runs has its turn, and then the file's text is copied into the room, as the report's is. -1: it
+/// would be longer than a file may be.
 #[unsafe(no_mangle)]
 pub extern "C" fn stm_desk_file(desk: &mut DeskHandle, room: &mut [u8], wanted: &mut usize) -> i32
     ensures file { On desk.old.value desk.new.value EMPTY result

@@ -68,7 +68,8 @@ fn open(alloc: Global, store: &mut StoreHandle, out: &mut DeskHandle) -> i32
     0
 }
 
-/// Lets a desk go; its handle is empty afterwards. Its workers may be used and let go afterwards. An empty one stays so.
+/// Lets a desk go; its handle is empty afterwards. Its workers may be used and let go afterwards. An empty one stays
+/// so.
 #[unsafe(no_mangle)]
 pub extern "C" fn stm_desk_free(alloc: Global, desk: &mut DeskHandle)
     ensures { desk.new.value ≡ None }

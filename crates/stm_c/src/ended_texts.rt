@@ -23,7 +23,8 @@ pub extern "C" fn stm_ended_chapter(ended: &mut EndedHandle) -> u64
     held.chapter
 }
 
-/// Copies the chapter's file into the room: 0, and `wanted` is how long it is. -1: it would be longer than a file may be;
+/// Copies the chapter's file into the room: 0, and `wanted` is how long it is. -1: it would be longer than a file may
+/// be;
 /// -8: the room is too short, and `wanted` is how much is needed; -12: the handle is empty.
 #[unsafe(no_mangle)]
 pub extern "C" fn stm_ended_file(
@@ -64,8 +65,8 @@ fn file_of(ended: &Ended, room: &mut [u8], wanted: &mut usize) -> i32
     }
 }
 
-/// Copies the chapter's report into the room: 0, and `wanted` is how long it is. -8: the room is too short, and `wanted`
-/// is how much is needed; -12: the handle is empty.
+/// Copies the chapter's report into the room: 0, and `wanted` is how long it is. -8: the room is too short, and
+/// `wanted` is how much is needed; -12: the handle is empty.
 #[unsafe(no_mangle)]
 pub extern "C" fn stm_ended_report(
     ended: &mut EndedHandle,

@@ -53,8 +53,8 @@ impl Desk {
     }
 
     /// The present chapter ends, of which nobody keeps anything, and the next one begins, in which who waits waits on:
-    /// what is long and runs has its turn first. No text is made. `NotEnded` and no change exactly where the host has the
-    /// chapter before, or did not keep it.
+    /// what is long and runs has its turn first. No text is made. `NotEnded` and no change exactly where the host has
+    /// the chapter before, or did not keep it.
     pub fn begin_chapter(&mut self) -> Result<(), Refused>
         ensures begun { HasBegun self.old.work result self.new.work }
         ensures history { Begins self.old.work.history.items self.new.work.history.items }

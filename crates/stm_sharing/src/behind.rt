@@ -236,8 +236,8 @@ impl<N: Naming> Behind<N> {
         Some(answer)
     }
 
-    /// Whoever waits for this does so no longer, and is shown that its task was given up. `false` and no change where it
-    /// was told what became of it, or is to be.
+    /// Whoever waits for this does so no longer, and is shown that its task was given up. `false` and no change where
+    /// it was told what became of it, or is to be.
     pub(crate) fn give_up<R: Wait>(
         &mut self,
         rt: &R,
