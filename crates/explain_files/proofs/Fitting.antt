@@ -18,7 +18,7 @@ use Rattle.text_words.specs.Tokens as token
 use Rattle.text_words.specs.Answers.{◌>>=◌}
 use Rattle.text_words.specs.Numbers.{number_of, count_of}
 use Rattle.text_words.specs.declared.fault.ReadFault.{ReadFault}
-use Rattle.text_grammar.specs.Tree.{Expr, Cond, Stmt, Stmts, NoStmts, MoreStmts, Pair, Table, Always, Declaration, Run, File, operator_word, comparison_word, connective_word, expr_tokens, cond_tokens, stmt_tokens, stmts_tokens, pair_tokens, table_tokens, always_tokens, tx_tokens, run_tokens, IsOfForm}
+use Rattle.text_grammar.specs.Tree.{Expr, Cond, Stmt, Stmts, NoStmts, MoreStmts, Pair, Table, Always, Declaration, Run, File, operator_word, comparison_word, connective_word, expr_tokens, cond_tokens, stmt_tokens, stmts_tokens, pair_tokens, table_tokens, always_tokens, tx_tokens, run_tokens, cond_formed, stmt_formed, stmts_formed, IsOfForm, IsTx, HasParts}
 use Rattle.text_grammar.specs.Tree as f
 use Rattle.text_grammar.specs.Scope.{Scope, standing, inside}
 use Rattle.text_grammar.specs.declared.file.FileForm.{FileForm}
@@ -159,49 +159,53 @@ cond_good sc spans few announced s (f.Connect op left right) ts k h =
     (λ x. good_bind (condition_in (with_spans sc spans) right) _ (cond_good sc spans few announced s right (Closes ∷ ts) b.1 (pass_cond LimitRight announced s left (cond_tokens right ++ (Closes ∷ ts)) w)) (λ y. (connect op x y, refl)))
 
 mutual
-  stmt_good : (sc : Scope) (spans : List Span) → HasPlaces sc → (announced : FileForm) (s : Seen) (e : Stmt) (ts : List Lexeme) → stmt_known sc e ≡ true → Along LimitRight announced s role.Value (stmt_tokens e ++ ts) → Good (statement_in (with_spans sc spans) e)
-  stmt_good sc spans few announced s f.Skip ts k h = (t.Skip, refl)
-  stmt_good sc spans few announced s (f.Set text value) ts k h =
+  stmt_good : (sc : Scope) (spans : List Span) → HasPlaces sc → (announced : FileForm) (s : Seen) (e : Stmt) (ts : List Lexeme) → stmt_formed announced e ≡ true → stmt_known sc e ≡ true → Along LimitRight announced s role.Value (stmt_tokens e ++ ts) → Good (statement_in (with_spans sc spans) e)
+  stmt_good sc spans few announced s f.Skip ts g k h = (t.Skip, refl)
+  stmt_good sc spans few announced s (f.Set text value) ts g k h =
       let w = in_set LimitRight announced s text value ts h in
       let b = both (is_known sc.variables text) (expr_known sc value) k in
       good_bind (variable_in sc.variables text) _ (variable_good sc.variables text few.variables b.0) (λ x. good_bind (expression_in (with_spans sc spans) value) _ (expr_good sc spans few announced s value (Closes ∷ ts) b.1 w.1) (λ y. (t.Set x y, refl)))
-  stmt_good sc spans few announced s (f.Put table index value) ts k h =
+  stmt_good sc spans few announced s (f.Put table index value) ts g k h =
       let w = (in_put LimitRight announced s table index value ts h).1 in
       let b = both (is_known sc.tables table) (expr_known sc index && expr_known sc value) k in
       let b1 = both (expr_known sc index) (expr_known sc value) b.1 in
       good_bind (table_in (with_spans sc spans) table) _ (table_good (with_spans sc spans) table b.0)
       (λ span. good_bind (expression_in (with_spans sc spans) index) _ (expr_good sc spans few announced s index (expr_tokens value ++ (Closes ∷ ts)) b1.0 w)
       (λ x. good_bind (expression_in (with_spans sc spans) value) _ (expr_good sc spans few announced s value (Closes ∷ ts) b1.1 (pass_expr LimitRight announced s index (expr_tokens value ++ (Closes ∷ ts)) w)) (λ y. (t.Put span x y, refl))))
-  stmt_good sc spans few announced s (f.Seq parts) ts k h =
-      good_bind (statements_in (with_spans sc spans) parts) _ (stmts_good sc spans few announced s parts (Closes ∷ ts) k (within LimitRight announced s (codes "seq") role.Value (stmts_tokens parts) ts refl h)) (λ ps. (t.Seq ps, refl))
-  stmt_good sc spans few announced s (f.If test first second) ts k h =
+  stmt_good sc spans few announced s (f.Seq parts) ts g k h =
+      good_bind (statements_in (with_spans sc spans) parts) _ (stmts_good sc spans few announced s parts (Closes ∷ ts) g k (within LimitRight announced s (codes "seq") role.Value (stmts_tokens parts) ts refl h)) (λ ps. (t.Seq ps, refl))
+  stmt_good sc spans few announced s (f.If test first second) ts g k h =
+      let g1 = both (stmt_formed announced first) (stmt_formed announced second) (both (cond_formed announced test) _ g).1 in
       let w = within_three LimitRight announced s (codes "if") (cond_tokens test) (stmt_tokens first) (stmt_tokens second) ts refl h in
       let a = pass_cond LimitRight announced s test (stmt_tokens first ++ (stmt_tokens second ++ (Closes ∷ ts))) w in
       let d = pass_stmt LimitRight announced s first (stmt_tokens second ++ (Closes ∷ ts)) a in
       let b = both (cond_known sc test) _ k in
       let b1 = both (stmt_known sc first) (stmt_known sc second) b.1 in
       good_bind (condition_in (with_spans sc spans) test) _ (cond_good sc spans few announced s test (stmt_tokens first ++ (stmt_tokens second ++ (Closes ∷ ts))) b.0 w)
-      (λ c. good_bind (statement_in (with_spans sc spans) first) _ (stmt_good sc spans few announced s first (stmt_tokens second ++ (Closes ∷ ts)) b1.0 a)
-      (λ x. good_bind (statement_in (with_spans sc spans) second) _ (stmt_good sc spans few announced s second (Closes ∷ ts) b1.1 d) (λ y. (t.If c x y, refl))))
-  stmt_good sc spans few announced s (f.Repeat count body) ts k h =
+      (λ c. good_bind (statement_in (with_spans sc spans) first) _ (stmt_good sc spans few announced s first (stmt_tokens second ++ (Closes ∷ ts)) g1.0 b1.0 a)
+      (λ x. good_bind (statement_in (with_spans sc spans) second) _ (stmt_good sc spans few announced s second (Closes ∷ ts) g1.1 b1.1 d) (λ y. (t.If c x y, refl))))
+  stmt_good sc spans few announced s (f.Repeat count body) ts g k h =
       let w = in_repeat LimitRight announced s body ts count h in
-      good_bind (count_of count) _ (turns_good (count_of count) w.0) (λ n. good_bind (statement_in (with_spans sc spans) body) _ (stmt_good sc spans few announced s body (Closes ∷ ts) k w.1) (λ x. (t.Repeat n x, refl)))
-  stmt_good sc spans few announced s f.Retry ts k h = (t.Retry, refl)
-  stmt_good sc spans few announced s (f.OrElse first second) ts k h =
+      good_bind (count_of count) _ (turns_good (count_of count) w.0) (λ n. good_bind (statement_in (with_spans sc spans) body) _ (stmt_good sc spans few announced s body (Closes ∷ ts) g k w.1) (λ x. (t.Repeat n x, refl)))
+  stmt_good sc spans few announced s f.Retry ts g k h = (t.Retry, refl)
+  stmt_good sc spans few announced s (f.OrElse first second) ts g k h =
+      let g1 = both (stmt_formed announced first) (stmt_formed announced second) g in
       let w = within_two LimitRight announced s (codes "orelse") (stmt_tokens first) (stmt_tokens second) ts refl h in
       let b = both (stmt_known sc first) (stmt_known sc second) k in
-      good_bind (statement_in (with_spans sc spans) first) _ (stmt_good sc spans few announced s first (stmt_tokens second ++ (Closes ∷ ts)) b.0 w)
-      (λ x. good_bind (statement_in (with_spans sc spans) second) _ (stmt_good sc spans few announced s second (Closes ∷ ts) b.1 (pass_stmt LimitRight announced s first (stmt_tokens second ++ (Closes ∷ ts)) w)) (λ y. (t.OrElse x y, refl)))
-  stmt_good sc spans few announced s (f.Throw value) ts k h =
+      good_bind (statement_in (with_spans sc spans) first) _ (stmt_good sc spans few announced s first (stmt_tokens second ++ (Closes ∷ ts)) g1.0 b.0 w)
+      (λ x. good_bind (statement_in (with_spans sc spans) second) _ (stmt_good sc spans few announced s second (Closes ∷ ts) g1.1 b.1 (pass_stmt LimitRight announced s first (stmt_tokens second ++ (Closes ∷ ts)) w)) (λ y. (t.OrElse x y, refl)))
+  stmt_good sc spans few announced s (f.Call text given) ts g k h = absurd (let none : false ≡ true = g in cc)
+  stmt_good sc spans few announced s (f.Throw value) ts g k h =
       good_bind (expression_in (with_spans sc spans) value) _ (expr_good sc spans few announced s value (Closes ∷ ts) k (within LimitRight announced s (codes "throw") role.Value (expr_tokens value) ts refl h)) (λ x. (t.Throw x, refl))
 
-  stmts_good : (sc : Scope) (spans : List Span) → HasPlaces sc → (announced : FileForm) (s : Seen) (e : Stmts) (ts : List Lexeme) → stmts_known sc e ≡ true → Along LimitRight announced s role.Value (stmts_tokens e ++ ts) → Good (statements_in (with_spans sc spans) e)
-  stmts_good sc spans few announced s NoStmts ts k h = (t.End, refl)
-  stmts_good sc spans few announced s (MoreStmts first others) ts k h =
+  stmts_good : (sc : Scope) (spans : List Span) → HasPlaces sc → (announced : FileForm) (s : Seen) (e : Stmts) (ts : List Lexeme) → stmts_formed announced e ≡ true → stmts_known sc e ≡ true → Along LimitRight announced s role.Value (stmts_tokens e ++ ts) → Good (statements_in (with_spans sc spans) e)
+  stmts_good sc spans few announced s NoStmts ts g k h = (t.End, refl)
+  stmts_good sc spans few announced s (MoreStmts first others) ts g k h =
+      let g1 = both (stmt_formed announced first) (stmts_formed announced others) g in
       let w = in_more LimitRight announced s first others ts h in
       let b = both (stmt_known sc first) (stmts_known sc others) k in
-      good_bind (statement_in (with_spans sc spans) first) _ (stmt_good sc spans few announced s first (stmts_tokens others ++ ts) b.0 w)
-      (λ x. good_bind (statements_in (with_spans sc spans) others) _ (stmts_good sc spans few announced s others ts b.1 (pass_stmt LimitRight announced s first (stmts_tokens others ++ ts) w)) (λ y. (t.More x y, refl)))
+      good_bind (statement_in (with_spans sc spans) first) _ (stmt_good sc spans few announced s first (stmts_tokens others ++ ts) g1.0 b.0 w)
+      (λ x. good_bind (statements_in (with_spans sc spans) others) _ (stmts_good sc spans few announced s others ts g1.1 b.1 (pass_stmt LimitRight announced s first (stmts_tokens others ++ ts) w)) (λ y. (t.More x y, refl)))
 
 -- ---- rows of declarations
 
@@ -369,9 +373,9 @@ tx_is : (sc : Scope) (d : Declaration) (x : Statement) (y : Expression) → stat
 tx_is sc d x y a b = rw (a, b) refl
 
 txs_fit : (announced : FileForm) (outer : Scope) (spans : List Span) → length outer.variables ≤ 256 → (all : List Declaration) (s : Seen) (ts : List Lexeme) → s.many.transactions ≤ most_transactions
-    → AllByRecursion (IsListed announced) all → list_all (tx_known outer) all ≡ true → Along LimitRight announced s role.Value (flat_map (tx_tokens announced) all ++ ts) → TxsFit (with_spans outer spans) s.many.transactions all
-txs_fit announced outer spans few [] s ts m lists k h = record { few = omega arith; transactions = []; are = refl; fit = refl; parameters = refl }
-txs_fit announced outer spans few (d ∷ all) s ts m lists k h =
+    → AllByRecursion (IsListed announced) all → AllByRecursion (IsTx announced) all → list_all (tx_known outer) all ≡ true → Along LimitRight announced s role.Value (flat_map (tx_tokens announced) all ++ ts) → TxsFit (with_spans outer spans) s.many.transactions all
+txs_fit announced outer spans few [] s ts m lists formed k h = record { few = omega arith; transactions = []; are = refl; fit = refl; parameters = refl }
+txs_fit announced outer spans few (d ∷ all) s ts m lists formed k h =
     let rest = flat_map (tx_tokens announced) all ++ ts in
     let o = onward LimitRight announced s (tx_tokens announced) d all ts h in
     let w = in_tx LimitRight announced s d rest o in
@@ -387,8 +391,8 @@ txs_fit announced outer spans few (d ∷ all) s ts m lists k h =
     let few_here : nat_le (length d.parameters) most_parameters ≡ true = le-leb (length d.parameters) most_parameters at_most in
     let places : HasPlaces sc = record { variables = few; parameters = omega arith } in
     let counted : u.many.transactions ≡ s.many.transactions + 1 = kept_by_parameters (λ (v : Seen). v.many.transactions) (λ v text. refl) (listed announced d.parameters) (with_name s d.name) in
-    let more = txs_fit announced outer spans few all u ts (let lt : s.many.transactions < most_transactions = one.few in omega arith) lists.1 b.1 (behind_tx LimitRight announced s d rest o) in
-    let body = stmt_good sc spans places announced u d.body (expr_tokens d.value ++ (Closes ∷ rest)) b1.0 w.body in
+    let more = txs_fit announced outer spans few all u ts (let lt : s.many.transactions < most_transactions = one.few in omega arith) lists.1 formed.1 b.1 (behind_tx LimitRight announced s d rest o) in
+    let body = stmt_good sc spans places announced u d.body (expr_tokens d.value ++ (Closes ∷ rest)) formed.0.0.1 b1.0 w.body in
     let value = expr_good sc spans places announced u d.value (Closes ∷ rest) b1.1 (pass_stmt LimitRight announced u d.body (expr_tokens d.value ++ (Closes ∷ rest)) w.body) in
     let made : Transaction = record { name = d.name; parameters = d.parameters; body = body.0; result = value.0 } in
     record {
@@ -548,8 +552,8 @@ uncounted file =
           ∙ kept_by_tables (λ (s : Seen). s.many.tasks) (λ s t. refl) file.tables s1 ∙ kept_by_variables (λ (s : Seen). s.many.tasks) (λ s text. refl) file.vars s0;
     }
 
-pub file_fits : (file : File) → IsOfForm file.form file → names_known file ≡ true → InFile LimitRight file → Fits file
-file_fits file formed k h =
+pub file_fits : (file : File) → IsOfForm file.form file → HasParts file → names_known file ≡ true → InFile LimitRight file → Fits file
+file_fits file formed parts k h =
     let announced = file.form in
     let lists = all_listed file formed in
     let s0 = seen_in announced [] in
@@ -577,7 +581,7 @@ file_fits file formed k h =
     let spans_are : spans_in (length names) declared ≡ Ok spans = spans_again (length names) declared (omega arith) in
     let places : HasPlaces sc = record { variables = few; parameters = omega arith } in
     let always_are = always_fit announced sc spans places file.always s2 _ (omega arith) used.0 h.always in
-    let txs_are = txs_fit announced sc spans few file.txs s3 _ (omega arith) lists used.1 h.txs in
+    let txs_are = txs_fit announced sc spans few file.txs s3 _ (omega arith) lists parts.1 used.1 h.txs in
     let few_txs : length txs ≤ 256 = let e : length txs ≡ length file.txs = length-map file.txs tx_name in let le : s3.many.transactions + length file.txs ≤ most_transactions = txs_are.few in omega arith in
     let runs_are = runs_fit announced file.txs few_txs txs_are.parameters file.runs s4 [] (omega arith) used.2 h.runs in
     let l : Listing = listing vars_are.good.0 tables_are.tables always_are.good.0 txs_are.transactions runs_are.runs in

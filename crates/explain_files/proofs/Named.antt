@@ -135,6 +135,7 @@ mutual
       let w = within_two NameRight announced s (codes "orelse") (stmt_tokens first) (stmt_tokens second) ts refl h in
       both_true _ _ (stmt_named announced s first (stmt_tokens second ++ (Closes ∷ ts)) w) (stmt_named announced s second (Closes ∷ ts) (pass_stmt NameRight announced s first (stmt_tokens second ++ (Closes ∷ ts)) w))
   stmt_named announced s (f.Throw value) ts h = expr_named announced s value (Closes ∷ ts) (within NameRight announced s (codes "throw") role.Value (expr_tokens value) ts refl h)
+  stmt_named announced s (f.Call text given) ts h = refl
 
   stmts_named : (announced : FileForm) (s : Seen) (e : Stmts) (ts : List Lexeme) → Along NameRight announced s role.Value (stmts_tokens e ++ ts) → stmts_known (scope s) e ≡ true
   stmts_named announced s NoStmts ts h = refl

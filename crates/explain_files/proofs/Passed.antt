@@ -5,7 +5,7 @@ use Rattle.std.specs.List.{flat_map}
 use Rattle.std.proofs.lemmas.List.{append-nil, reverse-reverse}
 use Rattle.text_words.specs.Tokens.{Lexeme, Opens, Closes, tokens}
 use Rattle.text_words.specs.Tokens as token
-use Rattle.text_grammar.specs.Tree.{Expr, Cond, Stmt, Stmts, NoStmts, MoreStmts, Pair, Table, Always, Declaration, Run, File, operator_word, fold_word, comparison_word, connective_word, form, expr_tokens, cond_tokens, stmt_tokens, stmts_tokens, pair_tokens, table_tokens, always_tokens, list_tokens, tx_tokens, run_tokens, heading_tokens, file_tokens}
+use Rattle.text_grammar.specs.Tree.{Expr, Cond, Argument, Stmt, Stmts, NoStmts, MoreStmts, Pair, Table, Always, Declaration, Run, File, operator_word, fold_word, comparison_word, connective_word, form, expr_tokens, cond_tokens, argument_token, stmt_tokens, stmts_tokens, pair_tokens, table_tokens, always_tokens, list_tokens, tx_tokens, run_tokens, heading_tokens, file_tokens}
 use Rattle.text_grammar.specs.Tree as f
 use Rattle.txn_programs.specs.declared.ast.Fold.{Fold}
 use Rattle.txn_programs.specs.declared.ast.Fold.TheVariants as fold
@@ -154,6 +154,11 @@ in_repeat Q announced s body ts count h = within Q announced s (codes "repeat") 
 pub in_more : (Q : Fact) (announced : FileForm) (s : Seen) (first : Stmt) (others : Stmts) (ts : List Lexeme) → Along Q announced s role.Value (stmts_tokens (MoreStmts first others) ++ ts) → Along Q announced s role.Value (stmt_tokens first ++ (stmts_tokens others ++ ts))
 in_more Q announced s first others ts h = subst (λ (us : List Lexeme). Along Q announced s role.Value us) (append_assoc (stmt_tokens first) (stmts_tokens others) ts) h
 
+pass_arguments : (Q : Fact) (announced : FileForm) (s : Seen) (given : List Argument) (ts : List Lexeme) → Along Q announced s role.Value (map argument_token given ++ (Closes ∷ ts)) → Along Q announced s role.Value (Closes ∷ ts)
+pass_arguments Q announced s [] ts h = h
+pass_arguments Q announced s (f.Number value ∷ given) ts h = pass_arguments Q announced s given ts h.1
+pass_arguments Q announced s (f.Parameter text ∷ given) ts h = pass_arguments Q announced s given ts h.1
+
 mutual
   pub pass_stmt : (Q : Fact) (announced : FileForm) (s : Seen) (e : Stmt) (ts : List Lexeme) → Along Q announced s role.Value (stmt_tokens e ++ ts) → Along Q announced s role.Value ts
   pass_stmt Q announced s f.Skip ts h = closed Q announced s ts (within Q announced s (codes "skip") role.Value [] ts refl h)
@@ -169,6 +174,7 @@ mutual
   pass_stmt Q announced s (f.OrElse first second) ts h =
       closed Q announced s ts (pass_stmt Q announced s second (Closes ∷ ts) (pass_stmt Q announced s first (stmt_tokens second ++ (Closes ∷ ts)) (within_two Q announced s (codes "orelse") (stmt_tokens first) (stmt_tokens second) ts refl h)))
   pass_stmt Q announced s (f.Throw value) ts h = closed Q announced s ts (pass_expr Q announced s value (Closes ∷ ts) (within Q announced s (codes "throw") role.Value (expr_tokens value) ts refl h))
+  pass_stmt Q announced s (f.Call text given) ts h = closed Q announced s ts (pass_arguments Q announced s given ts (within Q announced s (codes "call") role.Value (token.Name text ∷ map argument_token given) ts refl h).1)
 
   pub pass_stmts : (Q : Fact) (announced : FileForm) (s : Seen) (e : Stmts) (ts : List Lexeme) → Along Q announced s role.Value (stmts_tokens e ++ ts) → Along Q announced s role.Value ts
   pass_stmts Q announced s NoStmts ts h = h

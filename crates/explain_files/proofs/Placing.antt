@@ -145,7 +145,7 @@ limit_file bytes h all =
     record {
       file = first.0;
       read = tree_again bytes first.0 spelled;
-      fits = file_fits first.0 spelled.formed first.1.1 (in_file LimitRight first.0 (all_along LimitRight first.0.form bytes (file_tokens first.0) spelled.spelled right));
+      fits = file_fits first.0 spelled.formed spelled.parts first.1.1 (in_file LimitRight first.0 (all_along LimitRight first.0.form bytes (file_tokens first.0) spelled.spelled right));
     }
 
 pub limit_listed : (bytes : List ℕ) → first_fault bytes ≡ Some faults.Limit → AllTokens (IsRight (limit_fault_at (form_of (tokens bytes)))) bytes → IsListed bytes

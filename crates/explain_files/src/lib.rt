@@ -28,4 +28,4 @@ pub use explaining::{Explanation, Finding, Refusal, explain};
 pub use limits::LimitFault;
 pub use names::NameFault;
 pub use places::{Position, position_of};
-pub use text::{kind_name, line_of};
+pub use text::{kind_name, line_of, told};

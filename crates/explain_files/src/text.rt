@@ -82,8 +82,9 @@ fn found(
     }
 }
 
-/// The line that tells where and why a file is refused.
-pub(crate) fn told(alloc: Global, bytes: &[u8], refusal: &Refusal) -> Result<String, AllocError>
+/// The line that tells where and why a file is refused, with its newline: `line 3, column 12: F3 Shape: `, and behind
+/// it what is wanted there and what stands there. `Err` means that memory was refused.
+pub fn told(alloc: Global, bytes: &[u8], refusal: &Refusal) -> Result<String, AllocError>
     requires { refusal.now.place ≤ length bytes.now }
     ensures { IfOk result (λ text. IsLineWith (head_of bytes.now refusal.entry.now) (string_bytes text)) }
 {

@@ -6,12 +6,12 @@ use Rattle.std.specs.List.{flat_map}
 use Rattle.std.proofs.lemmas.List.{append-nil}
 use Rattle.text_words.specs.Tokens.{Lexeme, Opens, Closes}
 use Rattle.text_words.specs.Tokens as token
-use Rattle.text_grammar.specs.Tree.{Expr, Cond, Stmt, Stmts, NoStmts, MoreStmts, Pair, Table, Always, Declaration, Run, File, form, expr_tokens, cond_tokens, stmt_tokens, stmts_tokens, pair_tokens, table_tokens, always_tokens, list_tokens, tx_tokens, run_tokens, heading_tokens, file_tokens, operator_word, fold_word, comparison_word, connective_word, keyword_word}
+use Rattle.text_grammar.specs.Tree.{Expr, Cond, Argument, argument_token, Stmt, Stmts, NoStmts, MoreStmts, Pair, Table, Always, Declaration, Run, File, form, expr_tokens, cond_tokens, stmt_tokens, stmts_tokens, pair_tokens, table_tokens, always_tokens, list_tokens, tx_tokens, run_tokens, heading_tokens, file_tokens, operator_word, fold_word, comparison_word, connective_word, keyword_word}
 use Rattle.text_grammar.specs.Tree as f
 use Rattle.text_grammar.specs.declared.words.Keyword.TheVariants as keyword
 use Rattle.text_grammar.specs.declared.file.FileForm.{FileForm}
 use Rattle.text_grammar.specs.declared.file.FileForm.TheVariants.{One, Two, Three}
-use Rattle.text_file_printer.specs.Canonical.{form_text, spaced, expr_text, cond_text, stmt_text, stmts_text, pair_line, numbers_told, table_line, always_line, list_text, tx_line, spaced_integer, run_line, heading_text, text_of}
+use Rattle.text_file_printer.specs.Canonical.{form_text, spaced, expr_text, cond_text, spaced_argument, stmt_text, stmts_text, pair_line, numbers_told, table_line, always_line, list_text, tx_line, spaced_integer, run_line, heading_text, text_of}
 use Rattle.text_file_printer.specs.Layout.{space_before, laid_out_in, laid_out}
 use Rattle.text_file_printer.proofs.Spellings.{two_printed, three_printed}
 
@@ -67,6 +67,14 @@ cond_laid (f.Compare op l r) = form_laid (comparison_word op) (expr_tokens l ++ 
 cond_laid (f.Not c) = form_laid (codes "not") (cond_tokens c) _ (cond_laid c)
 cond_laid (f.Connect op l r) = form_laid (connective_word op) (cond_tokens l ++ cond_tokens r) _ (both (cond_tokens l) (cond_tokens r) _ _ (cond_laid l) (cond_laid r))
 
+argument_laid : (given : Argument) → Laid (argument_token given ∷ []) (spaced_argument given)
+argument_laid (f.Number value) = int value
+argument_laid (f.Parameter text) = name text
+
+arguments_laid : (given : List Argument) → Laid (map argument_token given) (flat_map spaced_argument given)
+arguments_laid [] = none
+arguments_laid (one ∷ given) = both (argument_token one ∷ []) (map argument_token given) _ _ (argument_laid one) (arguments_laid given)
+
 mutual
   stmt_laid : (s : Stmt) → Laid (stmt_tokens s) (spaced (stmt_text s))
   stmt_laid f.Skip = form_laid (keyword_word keyword.Skip) [] [] none
@@ -82,6 +90,7 @@ mutual
   stmt_laid f.Retry = form_laid (keyword_word keyword.Retry) [] [] none
   stmt_laid (f.OrElse a b) = form_laid (keyword_word keyword.OrElse) (stmt_tokens a ++ stmt_tokens b) _ (both (stmt_tokens a) (stmt_tokens b) _ _ (stmt_laid a) (stmt_laid b))
   stmt_laid (f.Throw e) = form_laid (keyword_word keyword.Throw) (expr_tokens e) _ (expr_laid e)
+  stmt_laid (f.Call text given) = form_laid (codes "call") (token.Name text ∷ map argument_token given) _ (both (token.Name text ∷ []) (map argument_token given) _ _ (name text) (arguments_laid given))
 
   stmts_laid : (ss : Stmts) → Laid (stmts_tokens ss) (stmts_text ss)
   stmts_laid NoStmts = none

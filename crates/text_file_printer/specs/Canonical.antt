@@ -3,7 +3,7 @@ use Rattle.std.specs.Prelude.{ℕ, ℤ, Bool, List, [], ◌∷◌, ◌++◌, cod
 use Rattle.std.specs.Fmt.{signed_decimal}
 use Rattle.std.specs.List.{flat_map}
 use Rattle.txn_programs.specs.Listing.{Listing}
-use Rattle.text_grammar.specs.Tree.{Expr, Int, Name, At, OfAll, Binary, Cond, Compare, Not, Connect, Stmt, Skip, Set, Put, Seq, If, Repeat, Retry, OrElse, Throw, Stmts, NoStmts, MoreStmts, Pair, Table, Always, Declaration, Run, File, longest, operator_word, fold_word, comparison_word, connective_word, keyword_word}
+use Rattle.text_grammar.specs.Tree.{Expr, Int, Name, At, OfAll, Binary, Cond, Compare, Not, Connect, Argument, Number, Parameter, Stmt, Skip, Set, Put, Seq, If, Repeat, Retry, OrElse, Throw, Call, Stmts, NoStmts, MoreStmts, Pair, Table, Always, Declaration, Run, File, longest, operator_word, fold_word, comparison_word, connective_word, keyword_word}
 use Rattle.text_grammar.specs.declared.words.Keyword.TheVariants as keyword
 use Rattle.text_grammar.specs.declared.file.FileForm.{FileForm}
 use Rattle.text_grammar.specs.declared.file.FileForm.TheVariants.{One, Two, Three}
@@ -29,6 +29,14 @@ cond_text (Compare op left right) = form_text (comparison_word op) (spaced (expr
 cond_text (Not inner) = form_text (codes "not") (spaced (cond_text inner))
 cond_text (Connect op left right) = form_text (connective_word op) (spaced (cond_text left) ++ spaced (cond_text right))
 
+abbrev pub argument_text : Argument → List ℕ
+argument_text (Number value) = signed_decimal value
+argument_text (Parameter name) = name
+
+-- an argument behind a space
+abbrev pub spaced_argument : Argument → List ℕ
+spaced_argument given = spaced (argument_text given)
+
 abbrev mutual
   pub stmt_text : Stmt → List ℕ
   stmt_text Skip = form_text (keyword_word keyword.Skip) []
@@ -40,6 +48,7 @@ abbrev mutual
   stmt_text Retry = form_text (keyword_word keyword.Retry) []
   stmt_text (OrElse first second) = form_text (keyword_word keyword.OrElse) (spaced (stmt_text first) ++ spaced (stmt_text second))
   stmt_text (Throw value) = form_text (keyword_word keyword.Throw) (spaced (expr_text value))
+  stmt_text (Call name arguments) = form_text (codes "call") (spaced name ++ flat_map spaced_argument arguments)
 
   -- each statement behind a space
   pub stmts_text : Stmts → List ℕ

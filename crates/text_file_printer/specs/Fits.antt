@@ -2,7 +2,7 @@
 use Rattle.std.specs.Prelude.{FitsSigned}
 use Rattle.std.specs.Int.{w64}
 use Rattle.std.specs.List.{AllByRecursion}
-use Rattle.text_grammar.specs.Tree.{Expr, Int, Name, At, OfAll, Binary, Cond, Compare, Not, Connect, Stmt, Skip, Set, Put, Seq, If, Repeat, Retry, OrElse, Throw, Stmts, NoStmts, MoreStmts, Pair, Table, Always, Declaration, Run, File}
+use Rattle.text_grammar.specs.Tree.{Expr, Int, Name, At, OfAll, Binary, Cond, Compare, Not, Connect, Argument, Number, Parameter, Stmt, Skip, Set, Put, Seq, If, Repeat, Retry, OrElse, Throw, Call, Stmts, NoStmts, MoreStmts, Pair, Table, Always, Declaration, Run, File}
 use Rattle.text_file_printer.specs.Canonical.{numbers_told}
 
 abbrev pub ExprFits : Expr → Type 0
@@ -17,6 +17,10 @@ CondFits (Compare op left right) = ExprFits left × ExprFits right
 CondFits (Not inner) = CondFits inner
 CondFits (Connect op left right) = CondFits left × CondFits right
 
+abbrev pub ArgumentFits : Argument → Type 0
+ArgumentFits (Number value) = FitsSigned w64 value
+ArgumentFits (Parameter name) = Unit {0}
+
 abbrev mutual
   pub StmtFits : Stmt → Type 0
   StmtFits Skip = Unit {0}
@@ -28,6 +32,7 @@ abbrev mutual
   StmtFits Retry = Unit {0}
   StmtFits (OrElse first second) = StmtFits first × StmtFits second
   StmtFits (Throw value) = ExprFits value
+  StmtFits (Call name arguments) = AllByRecursion ArgumentFits arguments
 
   pub StmtsFit : Stmts → Type 0
   StmtsFit NoStmts = Unit {0}

@@ -164,6 +164,7 @@ mutual
       let a = bind_ok (expression_in s value) _ x h in
       let p = expression_back s apart value a.0 a.1 in
       subst (StatementBack s (f.Throw value)) (ok_is (t.Throw a.0) x a.2) (ap f.Throw p.0, p.1)
+  statement_back s apart (f.Call name arguments) x h = absurd cc
 
   pub statements_back : (s : Scope) → Apart s → (ss : Stmts) (x : Statements) → statements_in s ss ≡ Ok x → Back (written_statements s) statements_integers ss x
   statements_back s apart NoStmts x h = subst (Back (written_statements s) statements_integers NoStmts) (ok_is t.End x h) (refl, refl)

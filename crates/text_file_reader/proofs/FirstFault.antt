@@ -136,6 +136,7 @@ mutual
       let p = both _ _ h in
       bind (statement_in scope first) _ (statement_limit scope first p.0) (λ a. bind (statement_in scope second) _ (statement_limit scope second p.1) (λ b. ok (t.OrElse a b)))
   statement_limit scope (f.Throw value) h = bind (expression_in scope value) _ (expression_limit scope value h) (λ a. ok (t.Throw a))
+  statement_limit scope (f.Call name arguments) h = only_err faults.Limit
 
   statements_limit : (scope : Scope) (ss : Stmts) → stmts_known (names_alone scope) ss ≡ true → IsLimit (statements_in scope ss)
   statements_limit scope NoStmts h = ok t.End

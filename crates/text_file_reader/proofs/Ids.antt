@@ -143,6 +143,7 @@ mutual
   statement_knows s spanned (f.Throw value) x h =
       let a = bind_ok (expression_in s value) _ x h in
       subst (StatementKnown s) (ok_is (t.Throw a.0) x a.2) (expression_knows s spanned value a.0 a.1)
+  statement_knows s spanned (f.Call name arguments) x h = absurd cc
 
   statements_know : (s : Scope) → Spanned s → (ss : Stmts) (x : Statements) → statements_in s ss ≡ Ok x → Known (knows_statements (length s.variables) s.spans (length s.parameters)) x
   statements_know s spanned NoStmts x h = subst (Known (knows_statements (length s.variables) s.spans (length s.parameters))) (ok_is t.End x h) refl

@@ -84,6 +84,7 @@ mutual
       let b = bind_ok (statement_in s second) _ x a.2 in
       both_true _ _ (statement_known s first a.0 a.1) (statement_known s second b.0 b.1)
   statement_known s (f.Throw value) x h = let a = bind_ok (expression_in s value) _ x h in expression_known s value a.0 a.1
+  statement_known s (f.Call name arguments) x h = refl
 
   statements_known : (s : Scope) (ss : Stmts) (xs : Statements) → statements_in s ss ≡ Ok xs → stmts_known (names_alone s) ss ≡ true
   statements_known s NoStmts xs h = refl

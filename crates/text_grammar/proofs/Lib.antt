@@ -5,3 +5,4 @@ pub mod Stmts
 pub mod Lists
 pub mod Files
 pub mod Views
+pub mod Calls

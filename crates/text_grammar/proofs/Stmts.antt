@@ -3,7 +3,7 @@ use Rattle.std.proofs.Common.{◌≡◌, ℕ, zero, suc, ◌≤◌, ◌<◌, ◌
 use Rattle.std.proofs.lemmas.Bool.{and_from, and_parts}
 use Rattle.text_words.specs.Tokens.{Lexeme, Opens, Closes}
 use Rattle.text_words.specs.Tokens as token
-use Rattle.text_grammar.specs.Tree.{expr_tokens, expr_formed, cond_tokens, cond_formed, Stmt, Skip, Set, Put, Seq, If, Repeat, Retry, OrElse, Throw, Stmts, NoStmts, MoreStmts, stmt_tokens, stmts_tokens, stmt_formed, stmts_formed, stmt_depth, stmts_depth, keyword_word, has_tables, IsExpr, IsCond, IsStmt}
+use Rattle.text_grammar.specs.Tree.{expr_tokens, expr_formed, cond_tokens, cond_formed, Stmt, Skip, Set, Put, Seq, If, Repeat, Retry, OrElse, Throw, Call, Stmts, NoStmts, MoreStmts, stmt_tokens, stmts_tokens, stmt_formed, stmts_formed, stmt_depth, stmts_depth, keyword_word, has_tables, IsExpr, IsCond, IsStmt}
 use Rattle.text_grammar.specs.Tree as tree
 use Rattle.text_grammar.specs.declared.file.FileForm.{FileForm}
 use Rattle.text_grammar.specs.declared.words.Keyword.{Keyword}
@@ -198,6 +198,7 @@ some_tokens (Repeat count body) = omega arith
 some_tokens Retry = omega arith
 some_tokens (OrElse first second) = omega arith
 some_tokens (Throw value) = omega arith
+some_tokens (Call name arguments) = omega arith
 
 pub stmt_shortens : (form : FileForm) (depth : ℕ) → Shortens (stmt_at form depth)
 stmt_shortens form depth = record {
@@ -217,6 +218,7 @@ begins_open (Repeat count body) rest = refl
 begins_open Retry rest = refl
 begins_open (OrElse first second) rest = refl
 begins_open (Throw value) rest = refl
+begins_open (Call name arguments) rest = refl
 
 closes : (rest : List Lexeme) → is_open (Closes ∷ rest) ≡ false
 unfolding is_open open_at
@@ -232,6 +234,7 @@ no_depth (Repeat count body) h = omega arith
 no_depth Retry h = omega arith
 no_depth (OrElse first second) h = omega arith
 no_depth (Throw value) h = omega arith
+no_depth (Call name arguments) h = omega arith
 
 -- a statement by its keyword
 step : (form : FileForm) (depth : ℕ) (keyword : Keyword) (ts : List Lexeme) → keyword_formed form keyword ≡ true
@@ -297,6 +300,7 @@ stmt_again form (suc depth) (Throw value) rest h =
     let regrouped : (expr_tokens value ++ (Closes ∷ [])) ++ rest ≡ expr_tokens value ++ (Closes ∷ rest) = simp append_assoc in
     let within : IsExpr form depth value = (let p = h.0 in omega arith, h.1) in
     rw regrouped (step form depth keywords.Throw (expr_tokens value ++ (Closes ∷ rest)) refl ∙ rw (expr_again form depth value (Closes ∷ rest) within, close_again rest) refl)
+stmt_again form (suc depth) (Call name arguments) rest h = absurd (let none : false ≡ true = h.1 in cc)
 
 -- a statement by its keyword, for any depth but 0
 pub stmt_step : (form : FileForm) (depth : ℕ) (ts : List Lexeme) (word : List ℕ × List Lexeme) (keyword : Keyword) → 0 < depth → word_at ts ≡ Ok word → keyword_of form word.0 ≡ Ok keyword

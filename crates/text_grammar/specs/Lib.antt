@@ -5,3 +5,5 @@ pub mod View
 pub mod Written
 pub mod Resolving
 pub mod Spelling
+pub mod Calls
+pub mod WorkedCalls

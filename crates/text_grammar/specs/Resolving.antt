@@ -51,7 +51,7 @@ cond_known s (f.Compare op left right) = expr_known s left && expr_known s right
 cond_known s (f.Not inner) = cond_known s inner
 cond_known s (f.Connect op left right) = cond_known s left && cond_known s right
 
--- what is set is a variable
+-- what is set is a variable; calls are judged apart
 abbrev mutual
   pub stmt_known : Scope → Stmt → Bool
   stmt_known s f.Skip = true
@@ -63,6 +63,7 @@ abbrev mutual
   stmt_known s f.Retry = true
   stmt_known s (f.OrElse first second) = stmt_known s first && stmt_known s second
   stmt_known s (f.Throw value) = expr_known s value
+  stmt_known s (f.Call name arguments) = true
 
   pub stmts_known : Scope → Stmts → Bool
   stmts_known s NoStmts = true
@@ -153,6 +154,7 @@ condition_in s (f.Compare op left right) = expression_in s left >>= λ a. expres
 condition_in s (f.Not inner) = condition_in s inner >>= λ c. Ok (t.Not c)
 condition_in s (f.Connect op left right) = condition_in s left >>= λ c. condition_in s right >>= λ d. Ok (connect op c d)
 
+-- a listing has no room for a call
 abbrev mutual
   pub statement_in : Scope → Stmt → Result Statement ReadFault
   statement_in s f.Skip = Ok t.Skip
@@ -164,6 +166,7 @@ abbrev mutual
   statement_in s f.Retry = Ok t.Retry
   statement_in s (f.OrElse first second) = statement_in s first >>= λ p. statement_in s second >>= λ q. Ok (t.OrElse p q)
   statement_in s (f.Throw value) = expression_in s value >>= λ a. Ok (t.Throw a)
+  statement_in s (f.Call name arguments) = Err Limit
 
   pub statements_in : Scope → Stmts → Result Statements ReadFault
   statements_in s NoStmts = Ok t.End

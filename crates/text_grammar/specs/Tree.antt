@@ -30,6 +30,11 @@ pub data Cond : Type 0 where
   Not : (inner : Cond) → Cond
   Connect : (op : Connective) → (left right : Cond) → Cond
 
+-- what a call gives for a parameter: a number, or a parameter of the transaction in which the call stands
+pub data Argument : Type 0 where
+  Number : (value : ℤ) → Argument
+  Parameter : (name : List ℕ) → Argument
+
 mutual
   pub data Stmt : Type 0 where
     Skip : Stmt
@@ -41,6 +46,7 @@ mutual
     Retry : Stmt
     OrElse : (first second : Stmt) → Stmt
     Throw : (value : Expr) → Stmt
+    Call : (name : List ℕ) (arguments : List Argument) → Stmt
 
   pub data Stmts : Type 0 where
     NoStmts : Stmts
@@ -132,6 +138,10 @@ cond_tokens (Compare op left right) = form (comparison_word op) (expr_tokens lef
 cond_tokens (Not inner) = form (codes "not") (cond_tokens inner)
 cond_tokens (Connect op left right) = form (connective_word op) (cond_tokens left ++ cond_tokens right)
 
+abbrev pub argument_token : Argument → Lexeme
+argument_token (Number value) = token.Int value
+argument_token (Parameter name) = token.Name name
+
 abbrev mutual
   pub stmt_tokens : Stmt → List Lexeme
   stmt_tokens Skip = form (keyword_word keyword.Skip) []
@@ -143,6 +153,7 @@ abbrev mutual
   stmt_tokens Retry = form (keyword_word keyword.Retry) []
   stmt_tokens (OrElse first second) = form (keyword_word keyword.OrElse) (stmt_tokens first ++ stmt_tokens second)
   stmt_tokens (Throw value) = form (keyword_word keyword.Throw) (expr_tokens value)
+  stmt_tokens (Call name arguments) = form (codes "call") (token.Name name ∷ map argument_token arguments)
 
   pub stmts_tokens : Stmts → List Lexeme
   stmts_tokens NoStmts = []
@@ -201,6 +212,7 @@ cond_formed form (Compare op left right) = expr_formed form left && expr_formed 
 cond_formed form (Not inner) = cond_formed form inner
 cond_formed form (Connect op left right) = cond_formed form left && cond_formed form right
 
+-- no form has calls yet
 abbrev mutual
   pub stmt_formed : FileForm → Stmt → Bool
   stmt_formed form Skip = true
@@ -212,6 +224,7 @@ abbrev mutual
   stmt_formed form Retry = true
   stmt_formed form (OrElse first second) = stmt_formed form first && stmt_formed form second
   stmt_formed form (Throw value) = expr_formed form value
+  stmt_formed form (Call name arguments) = false
 
   pub stmts_formed : FileForm → Stmts → Bool
   stmts_formed form NoStmts = true
@@ -252,6 +265,7 @@ abbrev mutual
   stmt_depth Retry = 1
   stmt_depth (OrElse first second) = suc (max (stmt_depth first) (stmt_depth second))
   stmt_depth (Throw value) = suc (expr_depth value)
+  stmt_depth (Call name arguments) = 1
 
   pub stmts_depth : Stmts → ℕ
   stmts_depth NoStmts = 0

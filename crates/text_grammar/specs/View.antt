@@ -3,12 +3,14 @@ use Rattle.std.specs.Prelude.{ℕ, ℤ, List, map}
 use Rattle.std.proofs.Common.{Bor}
 use Rattle.text_words.specs.declared.numeral.Numeral.{Numeral}
 use Rattle.text_words.specs.Bytes.{int_value}
-use Rattle.text_grammar.specs.Tree.{Expr, Cond, Stmt, Stmts, NoStmts, MoreStmts, Pair, Table, Always, Declaration, Run, File}
+use Rattle.text_grammar.specs.Tree.{Expr, Cond, Argument, Stmt, Stmts, NoStmts, MoreStmts, Pair, Table, Always, Declaration, Run, File}
 use Rattle.text_grammar.specs.Tree as tree
 use Rattle.text_grammar.specs.declared.expr.RawExpr.{RawExpr}
 use Rattle.text_grammar.specs.declared.expr.RawExpr as expr
 use Rattle.text_grammar.specs.declared.cond.RawCond.{RawCond}
 use Rattle.text_grammar.specs.declared.cond.RawCond as cond
+use Rattle.text_grammar.specs.declared.stmt.RawArgument.{RawArgument}
+use Rattle.text_grammar.specs.declared.stmt.RawArgument.TheVariants as argument
 use Rattle.text_grammar.specs.declared.stmt.RawStmt.{RawStmt, Row_of-RawStmt, end_of-RawStmt, more_of-RawStmt}
 use Rattle.text_grammar.specs.declared.stmt.RawStmt as stmt
 use Rattle.text_grammar.specs.declared.file.RawPair.{RawPair}
@@ -30,6 +32,13 @@ view_cond (cond.Compare op left right) = tree.Compare op (view_expr left) (view_
 view_cond (cond.Not' p inner) = tree.Not (view_cond inner)
 view_cond (cond.Connect' op p left q right) = tree.Connect op (view_cond left) (view_cond right)
 
+abbrev pub view_argument : RawArgument → Argument
+view_argument (argument.Int numeral) = tree.Number (int_value numeral.text.now)
+view_argument (argument.Name name) = tree.Parameter name.now
+
+abbrev pub view_arguments : List RawArgument → List Argument
+view_arguments given = map view_argument given
+
 abbrev mutual
   pub view_stmt : RawStmt → Stmt
   view_stmt stmt.Skip = tree.Skip
@@ -41,6 +50,7 @@ abbrev mutual
   view_stmt stmt.Retry = tree.Retry
   view_stmt (stmt.OrElse' p first q second) = tree.OrElse (view_stmt first) (view_stmt second)
   view_stmt (stmt.Throw value) = tree.Throw (view_expr value)
+  view_stmt (stmt.Call name given) = tree.Call name.now (view_arguments given.items)
 
   pub view_row : {k : _} → Row_of-RawStmt k → Stmts
   view_row end_of-RawStmt = NoStmts

@@ -5,5 +5,6 @@
 pub mod cond;
 pub mod expr;
 pub mod file;
+pub mod laws;
 pub mod stmt;
 pub mod words;

@@ -172,7 +172,7 @@ fn stmt_known(scope: &Scope<'_, '_>, s: &RawStmt<'_>) -> bool
     ensures { result ≡ stmt_known (view_scope scope.now) (view_stmt s.now) }
 {
     match s {
-        RawStmt::Skip | RawStmt::Retry => true,
+        RawStmt::Skip | RawStmt::Retry | RawStmt::Call(..) => true,
         RawStmt::Set(name, value) => is_known(scope.vars, *name) && expr_known(scope, value),
         RawStmt::Put(table, index, value) => {
             is_known(scope.tables, *table) && expr_known(scope, index) && expr_known(scope, value)

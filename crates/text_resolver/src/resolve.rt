@@ -298,6 +298,7 @@ fn statement(alloc: Global, scope: &Scope<'_, '_>, s: &RawStmt<'_>) -> Result<St
             Ok(Stmt::OrElse(first, second))
         }
         RawStmt::Throw(value) => throwing(alloc, scope, value),
+        RawStmt::Call(..) => Err(ReadFault::Limit),
     }
 }
 
