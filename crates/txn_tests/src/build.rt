@@ -232,22 +232,41 @@ fn refusal_known(alloc: Global, of: Of) -> Refusal {
     Ok(Catalogue::build_known(alloc, vars, tables, always, txs, none).err())
 }
 
-/// Each is refused so, where its ids are known.
-pub(crate) fn expect_known(
-    rt: &(impl Abort + Eprint),
-    alloc: Global,
-    rows: &[(Of, Option<BuildFault>)],
-) {
+/// What is so, and catalogues with how each is refused, if it is.
+pub(crate) type Rows = (&'static str, &'static [(Of, Option<BuildFault>)]);
+
+/// The first that is not refused so.
+fn first_wrong(alloc: Global, rows: &[(Of, Option<BuildFault>)]) -> Option<usize> {
     for place in 0..rows.len() {
         let (of, want) = rows[place];
-        assert!(rt; refusal_known(alloc, of) == Ok(want), "row {place}");
+        if refusal(alloc, of) != Ok(want) {
+            return Some(place);
+        }
+    }
+    None
+}
+
+/// The same where ids are known.
+fn first_wrong_known(alloc: Global, rows: &[(Of, Option<BuildFault>)]) -> Option<usize> {
+    for place in 0..rows.len() {
+        let (of, want) = rows[place];
+        if refusal_known(alloc, of) != Ok(want) {
+            return Some(place);
+        }
+    }
+    None
+}
+
+/// Each is refused so, where its ids are known.
+pub(crate) fn expect_known(rt: &(impl Abort + Eprint), alloc: Global, all: &[Rows]) {
+    for (so, rows) in all {
+        assert_eq!(rt; first_wrong_known(alloc, rows), None, "{so}");
     }
 }
 
 /// Each is refused so.
-pub(crate) fn expect(rt: &(impl Abort + Eprint), alloc: Global, rows: &[(Of, Option<BuildFault>)]) {
-    for place in 0..rows.len() {
-        let (of, want) = rows[place];
-        assert!(rt; refusal(alloc, of) == Ok(want), "row {place}");
+pub(crate) fn expect(rt: &(impl Abort + Eprint), alloc: Global, all: &[Rows]) {
+    for (so, rows) in all {
+        assert_eq!(rt; first_wrong(alloc, rows), None, "{so}");
     }
 }

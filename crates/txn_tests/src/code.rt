@@ -1,6 +1,6 @@
 //! The own code of transactions, spelled out by hand.
 
-use crate::getters::{Look, expect, expect_repeated};
+use crate::getters::{Look, expect_all, expect_repeated};
 use crate::parts::X;
 use std::mem::size_of;
 use txn::Op;
@@ -103,16 +103,9 @@ const PASSED: &[(&str, &[Look])] = &[
 ];
 
 #[test]
-fn operands_to_the_right_are_fused(rt: HostRuntime) {
-    for (text, code) in FUSED {
-        expect(&rt, rt.alloc(), text, code);
-    }
-}
-
-#[test]
-fn sequences_branches_and_loops_are_passed(rt: HostRuntime) {
-    for (text, code) in PASSED {
-        expect(&rt, rt.alloc(), text, code);
+fn transactions_have_their_code(rt: HostRuntime) {
+    for rows in [FUSED, PASSED] {
+        expect_all(&rt, rt.alloc(), rows);
     }
 }
 

@@ -90,17 +90,27 @@ fn upholds(alloc: Global, text: &str) -> bool {
 /// What is denied is false at its left, and has a fault at its right.
 const DENIED: &str = "(stm 2)(always ok (not (and (eq 1 2) (eq (div 1 0) 0))))";
 
+/// Whether 1 is 2.
+fn is_one_two() -> Result<bool, Fault> {
+    truth(&[], &Cond::Eq(Expr::Int(1), Expr::Int(2)), &[])
+}
+
 #[test]
 fn conditions_look_right_only_where_needed(rt: HostRuntime) {
     assert!(rt; quotient(rt.alloc()) == Ok(Err(Fault::DivideByZero)));
-    assert!(rt; truth(&[], &Cond::Eq(Expr::Int(1), Expr::Int(2)), &[]) == Ok(false));
+    assert!(rt; is_one_two() == Ok(false));
     assert!(rt; upholds(rt.alloc(), DENIED));
+}
+
+/// What the parameter is, where the arguments are 7 and 8.
+fn argument(place: u32) -> Result<i64, Fault> {
+    value(&[7, 8], &Expr::Param(ParamId(place)), &[])
 }
 
 #[test]
 fn a_parameter_is_its_argument(rt: HostRuntime) {
-    assert!(rt; value(&[7, 8], &Expr::Param(ParamId(1)), &[]) == Ok(8));
-    assert!(rt; value(&[7, 8], &Expr::Param(ParamId(2)), &[]) == Ok(0));
+    assert!(rt; argument(1) == Ok(8));
+    assert!(rt; argument(2) == Ok(0));
 }
 
 /// Whether a run of the first transaction from the initial state makes so many notes, which lead back to it.

@@ -142,6 +142,13 @@ pub(crate) fn expect(rt: &(impl Abort + Eprint), alloc: Global, text: &str, look
     }
 }
 
+/// So does that of each text.
+pub(crate) fn expect_all(rt: &(impl Abort + Eprint), alloc: Global, rows: &[(&str, &[Look])]) {
+    for (text, looks) in rows {
+        expect(rt, alloc, text, looks);
+    }
+}
+
 /// So does that of the text that has each part so many times.
 pub(crate) fn expect_repeated(
     rt: &(impl Abort + Eprint),
@@ -191,15 +198,6 @@ const CALLS: &[Look] = &[
     Look::Callable(TxId(2), &[], false),
 ];
 
-#[test]
-fn variables_transactions_and_tasks_are_told(rt: HostRuntime) {
-    expect(&rt, rt.alloc(), TEXT, VARIABLES);
-    expect(&rt, rt.alloc(), TEXT, NO_TABLES);
-    expect(&rt, rt.alloc(), TEXT, TRANSACTIONS);
-    expect(&rt, rt.alloc(), TEXT, TASKS);
-    expect(&rt, rt.alloc(), TEXT, CALLS);
-}
-
 /// x and two conditions: `small`, that x is at most 5, and `half`, that half of x is 2.
 const CONDITIONS: &str =
     "(stm 2)(var x 5)(always small (le x 5))(always half (eq (div x 2) 2))(tx t (skip) 0)";
@@ -227,11 +225,6 @@ const STANDING: &[Look] = &[
     ]),
 ];
 
-#[test]
-fn conditions_are_told(rt: HostRuntime) {
-    expect(&rt, rt.alloc(), CONDITIONS, STANDING);
-}
-
 /// Three transactions, of which the second has the most parameters.
 const PARAMETERS: &str =
     "(stm 3)(var x 5)(tx t () (skip) 0)(tx pay (from to) (set x (add x from)) to)(tx u (n) (skip) n)(run pay 2 7 -8)\
@@ -250,13 +243,20 @@ const GIVEN: &[Look] = &[
     Look::TaskArguments(TaskId(2), &[]),
 ];
 
+const NO_PARAMETERS: &[Look] = &[Look::Params(TxId(1), &[]), Look::MostParams(0)];
+
+const ROWS: &[(&str, &[Look])] = &[
+    (TEXT, VARIABLES),
+    (TEXT, NO_TABLES),
+    (TEXT, TRANSACTIONS),
+    (TEXT, TASKS),
+    (TEXT, CALLS),
+    (TEXT, NO_PARAMETERS),
+    (CONDITIONS, STANDING),
+    (PARAMETERS, GIVEN),
+];
+
 #[test]
-fn parameters_and_arguments_are_told(rt: HostRuntime) {
-    expect(&rt, rt.alloc(), PARAMETERS, GIVEN);
-    expect(
-        &rt,
-        rt.alloc(),
-        TEXT,
-        &[Look::Params(TxId(1), &[]), Look::MostParams(0)],
-    );
+fn what_is_declared_is_told(rt: HostRuntime) {
+    expect_all(&rt, rt.alloc(), ROWS);
 }

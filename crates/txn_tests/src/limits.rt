@@ -1,7 +1,7 @@
-//! What `Catalogue::build` refuses, at each limit, and `build_known`.
+//! What `Catalogue::build` and `build_known` refuse, at each limit but that of costs, which `cases/` comes to.
 
 use crate::bodies::{Body, Holds};
-use crate::build::{Of, expect, expect_known};
+use crate::build::{Of, Rows, expect, expect_known};
 use txn::names::is_name;
 use txn::{BuildFault, TxId};
 
@@ -26,14 +26,6 @@ const NAMES_AND_IDS: &[(Of, Option<BuildFault>)] = &[
     (Of::Runs(&[(TxId(0), &[], 2), (TxId(0), &[5], 1)]), NAME),
 ];
 
-#[test]
-fn names_and_ids_come_first(rt: HostRuntime) {
-    assert!(rt; is_name(b"x_1"));
-    assert!(rt; !is_name(b"1x"));
-    assert!(rt; !is_name(b""));
-    expect(&rt, rt.alloc(), NAMES_AND_IDS);
-}
-
 const KNOWN: &[(Of, Option<BuildFault>)] = &[
     (Of::Vars(&[("x", 5), ("y", -3)]), None),
     (Of::Vars(&[("1x", 0)]), NAME),
@@ -45,7 +37,11 @@ const KNOWN: &[(Of, Option<BuildFault>)] = &[
 
 #[test]
 fn known_ids_leave_names_and_limits(rt: HostRuntime) {
-    expect_known(&rt, rt.alloc(), KNOWN);
+    expect_known(
+        &rt,
+        rt.alloc(),
+        &[("known ids leave names and limits", KNOWN)],
+    );
 }
 
 const LONG_NAMES: &[(Of, Option<BuildFault>)] = &[
@@ -55,59 +51,12 @@ const LONG_NAMES: &[(Of, Option<BuildFault>)] = &[
     (Of::Always(&[(LONGER, Holds::Is(5))], Body::Skips), LIMIT),
 ];
 
-#[test]
-fn names_have_32_bytes_at_most(rt: HostRuntime) {
-    assert!(rt; LONG.len() == 32);
-    expect(&rt, rt.alloc(), LONG_NAMES);
-}
-
-/// Together with two conditions that cost 3 each, and with none.
-const COSTS: &[(Of, Option<BuildFault>)] = &[
-    (Of::Tx(Body::Costs(996)), None),
-    (Of::Tx(Body::Costs(997)), LIMIT),
-    (
-        Of::Always(
-            &[("a", Holds::Is(5)), ("b", Holds::Is(5))],
-            Body::Costs(990),
-        ),
-        None,
-    ),
-    (
-        Of::Always(
-            &[("a", Holds::Is(5)), ("b", Holds::Is(5))],
-            Body::Costs(991),
-        ),
-        LIMIT,
-    ),
-];
-
-#[test]
-fn cost_is_a_million_at_most(rt: HostRuntime) {
-    expect(&rt, rt.alloc(), COSTS);
-}
-
-const NEVER: &[(Of, Option<BuildFault>)] = &[
-    (Of::Tx(Body::Huge(0)), None),
-    (Of::Tx(Body::Huge(1)), LIMIT),
-    (Of::Tx(Body::Never(1001)), LIMIT),
-];
-
-#[test]
-fn repeat_0_costs_1_whatever_its_body(rt: HostRuntime) {
-    expect(&rt, rt.alloc(), NEVER);
-}
-
 const DEPTHS: &[(Of, Option<BuildFault>)] = &[
     (Of::Tx(Body::Deep(31)), None),
     (Of::Tx(Body::Deep(32)), LIMIT),
     (Of::Always(&[("a", Holds::Deep(31))], Body::Skips), None),
     (Of::Always(&[("a", Holds::Deep(32))], Body::Skips), LIMIT),
 ];
-
-#[test]
-fn trees_are_31_deep_at_most(rt: HostRuntime) {
-    expect(&rt, rt.alloc(), DEPTHS);
-}
 
 /// 256 variables and transactions, 64 conditions and 65,536 tasks.
 const COUNTS: &[(Of, Option<BuildFault>)] = &[
@@ -122,11 +71,6 @@ const COUNTS: &[(Of, Option<BuildFault>)] = &[
     (Of::Runs(&[(TxId(0), &[], 65535), (TxId(0), &[], 2)]), LIMIT),
     (Of::Runs(&[(TxId(0), &[], 0), (TxId(0), &[], 65537)]), LIMIT),
 ];
-
-#[test]
-fn there_are_so_many_at_most(rt: HostRuntime) {
-    expect(&rt, rt.alloc(), COUNTS);
-}
 
 /// A condition may be named as a variable or a transaction is: these names are apart.
 const NAMES_OF_CONDITIONS: &[(Of, Option<BuildFault>)] = &[
@@ -146,11 +90,6 @@ const NAMES_OF_CONDITIONS: &[(Of, Option<BuildFault>)] = &[
     ),
     (Of::Always(&[("a", Holds::Unknown)], Body::Skips), NAME),
 ];
-
-#[test]
-fn names_of_conditions_are_their_own(rt: HostRuntime) {
-    expect(&rt, rt.alloc(), NAMES_OF_CONDITIONS);
-}
 
 /// Names and limits come before what is broken.
 const TRUE_AT_FIRST: &[(Of, Option<BuildFault>)] = &[
@@ -179,43 +118,21 @@ const TRUE_AT_FIRST: &[(Of, Option<BuildFault>)] = &[
     ),
 ];
 
-#[test]
-fn conditions_are_true_at_first(rt: HostRuntime) {
-    expect(&rt, rt.alloc(), TRUE_AT_FIRST);
-}
-
-/// Conditions that cost 524,287 and 262,143 and 131,071 and 65,535 and 16,383 and 511 and 63, which
-/// are 999,993 together, and one that costs 7, or 8 where it is denied.
-const MILLION: &[(Of, Option<BuildFault>)] = &[
-    (
-        Of::AlwaysAlone(&[
-            ("a17", Holds::Tree(17)),
-            ("a16", Holds::Tree(16)),
-            ("a15", Holds::Tree(15)),
-            ("a14", Holds::Tree(14)),
-            ("a12", Holds::Tree(12)),
-            ("a7", Holds::Tree(7)),
-            ("a4", Holds::Tree(4)),
-            ("last", Holds::Tree(1)),
-        ]),
-        None,
-    ),
-    (
-        Of::AlwaysAlone(&[
-            ("a17", Holds::Tree(17)),
-            ("a16", Holds::Tree(16)),
-            ("a15", Holds::Tree(15)),
-            ("a14", Holds::Tree(14)),
-            ("a12", Holds::Tree(12)),
-            ("a7", Holds::Tree(7)),
-            ("a4", Holds::Tree(4)),
-            ("last", Holds::Denied(1)),
-        ]),
-        LIMIT,
-    ),
+const ALL: &[Rows] = &[
+    ("names and ids come first", NAMES_AND_IDS),
+    ("names have 32 bytes at most", LONG_NAMES),
+    ("trees are 31 deep at most", DEPTHS),
+    ("there are so many at most", COUNTS),
+    ("names of conditions are their own", NAMES_OF_CONDITIONS),
+    ("conditions are true at first", TRUE_AT_FIRST),
 ];
 
 #[test]
-fn conditions_cost_a_million_together_at_most(rt: HostRuntime) {
-    expect(&rt, rt.alloc(), MILLION);
+fn catalogues_are_judged(rt: HostRuntime) {
+    expect(&rt, rt.alloc(), ALL);
+}
+
+#[test]
+fn names_begin_with_letters(rt: HostRuntime) {
+    assert!(rt; LONG.len() == 32 && is_name(b"x_1") && !is_name(b"1x") && !is_name(b""));
 }

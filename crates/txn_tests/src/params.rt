@@ -1,7 +1,7 @@
 //! The parameters of transactions: what `Catalogue::build` refuses of them, and what a catalogue tells.
 
 use crate::bodies::{Body, Holds};
-use crate::build::{Of, expect};
+use crate::build::{Of, Rows, expect};
 use crate::limits::{LIMIT, LONG, LONGER, NAME};
 use txn::{BuildFault, ParamId};
 
@@ -14,21 +14,11 @@ const NAMES: &[(Of, Option<BuildFault>)] = &[
     (Of::Params(&["x1", "t"], ParamId(1), &[]), None),
 ];
 
-#[test]
-fn names_of_parameters_are_their_own(rt: HostRuntime) {
-    expect(&rt, rt.alloc(), NAMES);
-}
-
 const IDS: &[(Of, Option<BuildFault>)] = &[
     (Of::Params(&["from", "to"], ParamId(2), &[]), NAME),
     (Of::Params(&[], ParamId(0), &[]), NAME),
     (Of::Always(&[("a", Holds::Param)], Body::Skips), NAME),
 ];
-
-#[test]
-fn parameters_are_known(rt: HostRuntime) {
-    expect(&rt, rt.alloc(), IDS);
-}
 
 const CALLS: &[(Of, Option<BuildFault>)] = &[
     (
@@ -46,11 +36,6 @@ const CALLS: &[(Of, Option<BuildFault>)] = &[
     (Of::Params(&["from", "to"], ParamId(1), &[&[]]), NAME),
 ];
 
-#[test]
-fn each_parameter_has_an_argument(rt: HostRuntime) {
-    expect(&rt, rt.alloc(), CALLS);
-}
-
 const EIGHT: &[&str] = &["a", "b", "c", "d", "e", "f", "g", "h"];
 
 const NINE: &[&str] = &["a", "b", "c", "d", "e", "f", "g", "h", "i"];
@@ -66,7 +51,14 @@ const LIMITS: &[(Of, Option<BuildFault>)] = &[
     (Of::Params(&[LONGER, LONGER], ParamId(0), &[]), NAME),
 ];
 
+const ALL: &[Rows] = &[
+    ("names of parameters are their own", NAMES),
+    ("parameters are known", IDS),
+    ("each parameter has an argument", CALLS),
+    ("parameters are eight at most", LIMITS),
+];
+
 #[test]
-fn parameters_are_eight_at_most(rt: HostRuntime) {
-    expect(&rt, rt.alloc(), LIMITS);
+fn parameters_are_judged(rt: HostRuntime) {
+    expect(&rt, rt.alloc(), ALL);
 }

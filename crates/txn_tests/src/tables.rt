@@ -1,7 +1,7 @@
 //! Tables: what `Catalogue::build` refuses of them.
 
 use crate::bodies::{Body, Holds, Read};
-use crate::build::{Of, expect, expect_known};
+use crate::build::{Of, Rows, expect, expect_known};
 use crate::limits::{LIMIT, LONG, LONGER, NAME};
 use txn::{BuildFault, Span};
 
@@ -59,12 +59,6 @@ const NAMES: &[(Of, Option<BuildFault>)] = &[
     (Of::Tables(&[(LONGER, 1), (LONGER, 1)], Body::Skips), NAME),
 ];
 
-#[test]
-fn names_of_tables_are_their_own(rt: HostRuntime) {
-    expect(&rt, rt.alloc(), NAMES);
-    expect_known(&rt, rt.alloc(), NAMES);
-}
-
 /// A table has a cell, and all have 1,048,576 at most; there are 64 tables at most.
 const COUNTS: &[(Of, Option<BuildFault>)] = &[
     (Of::ManyTables(64), None),
@@ -81,11 +75,6 @@ const COUNTS: &[(Of, Option<BuildFault>)] = &[
         LIMIT,
     ),
 ];
-
-#[test]
-fn cells_are_a_power_of_two_at_most(rt: HostRuntime) {
-    expect(&rt, rt.alloc(), COUNTS);
-}
 
 /// Only the cells of a whole table are one.
 const USES: &[(Of, Option<BuildFault>)] = &[
@@ -110,7 +99,14 @@ const USES: &[(Of, Option<BuildFault>)] = &[
     (Of::TablesUnder(&[], Holds::Reads(Read::Max, A)), NAME),
 ];
 
+const ALL_OF_THEM: &[Rows] = &[
+    ("names of tables are their own", NAMES),
+    ("cells are a power of two at most", COUNTS),
+    ("what is no table is unknown", USES),
+];
+
 #[test]
-fn what_is_no_table_is_unknown(rt: HostRuntime) {
-    expect(&rt, rt.alloc(), USES);
+fn tables_are_judged(rt: HostRuntime) {
+    expect(&rt, rt.alloc(), ALL_OF_THEM);
+    expect_known(&rt, rt.alloc(), &[("names of tables are their own", NAMES)]);
 }
