@@ -96,7 +96,7 @@ short_catalogue : (due : Bool) (b : BookView) → (if due then checkpointed b el
 short_catalogue true b = refl
 short_catalogue false b = refl
 
-ends_catalogue : (every : ℕ) (b new : BookView) (task : TaskId) (how : End) → Ends every b task how new → new.catalogue ≡ b.catalogue
+pub ends_catalogue : (every : ℕ) (b new : BookView) (task : TaskId) (how : End) → Ends every b task how new → new.catalogue ≡ b.catalogue
 ends_catalogue every b new task (end.Entered e) h =
     ap (λ (x : BookView). x.catalogue) h.kept ∙ (short_catalogue (is_due every (serial.Committed e.number) (committed b task)) (committed b task) ∙ committed_catalogue b task)
 ends_catalogue every b new task end.Parked h = ap (λ (x : BookView). x.catalogue) h.2.2

@@ -10,6 +10,7 @@ mod Settling
 mod Beginning
 mod Carrying
 mod Turned
+mod Within
 mod Lending
 mod Ending
 pub mod Crossing

@@ -1,5 +1,5 @@
 -- What a call is answered for which the chapter has no room.
-use Rattle.std.proofs.Common.{◌≡◌, ◌∙◌, ◌⊎◌, ◌<◌, inl, inr, Result, Ok, Err, ℕ, sym, subst}
+use Rattle.std.proofs.Common.{◌≡◌, ◌∙◌, ◌⊎◌, ◌<◌, inl, inr, Result, Ok, Err, ℕ, ap, sym, subst}
 use Rattle.txn_programs.specs.declared.arguments.Call.{Call}
 use Rattle.book.specs.Chapters.{chapter_of}
 use Rattle.book.specs.View.{BookView}
@@ -46,6 +46,7 @@ settled_after old mid new same on h =
     record {
       still = h.still;
       due = h.due;
+      listing = h.listing ∙ ap (λ (b : BookView). b.catalogue) same.store.0;
       tickets = h.tickets ∙ same.store.1;
       hands_on = subst (λ (w : Waiters). HandsOn w new.waiters) same.waiters h.hands_on;
       goes_on = goes_both old mid new on h.goes_on;

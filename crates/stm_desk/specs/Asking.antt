@@ -1,6 +1,7 @@
 -- What a call is answered in the midst of a desk's, before what it woke has had its turns, and what it leaves.
-use Rattle.std.specs.Prelude.{◌≡◌, ◌≢◌, ◌+◌, ℕ, [], ◌∷◌, ◌++◌, length, Some, Result, Ok, Err, slice_get}
+use Rattle.std.specs.Prelude.{◌≡◌, ◌≢◌, ◌+◌, ℕ, List, [], ◌∷◌, ◌++◌, length, Some, Result, Ok, Err, slice_get}
 use Rattle.txn_programs.specs.declared.arguments.Call.{Call}
+use Rattle.txn.specs.Grown.{grown}
 use Rattle.book.specs.Tasks.{Ready, Running}
 use Rattle.stm_store.specs.Asking.{IsUnchanged}
 use Rattle.stm_store.specs.Turning.{RefusesCall}
@@ -90,6 +91,10 @@ IsAnswered old call way whose (Ok asked.ChapterFull) new = ⊥
 IsAnswered old call way whose (Err refused.Memory) new = IsGivenUp old new
 IsAnswered old call way whose (Err why) new =
     RefusesCall way old.store call.tx call.arguments why × IsSame old new
+
+-- the chapter goes on: it began as it did, and calls were submitted to it at most
+abbrev pub StaysInChapter : Store → Store → Type 0
+StaysInChapter old new = (more : List Call) × (new.book.catalogue ≡ grown old.book.catalogue more)
 
 -- what turns leave: the program, the chapter, how the store was at first, what is long, whether it is closed, and what
 -- became of the chapter that ended last; the history only grows

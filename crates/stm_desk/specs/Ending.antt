@@ -24,11 +24,12 @@ pub record BeginsNext (old new : Store) : Type 0 where
   pub chapter : new.chapter ≡ next_number old.chapter
   pub catalogue : new.catalogue.now ≡ old.catalogue.now
 
--- each task that ran has had its turn, and what that woke: nothing is left to be evaluated or handed out, no ticket was
--- given, and who waited waits on or is told
+-- each task that ran has had its turn, and what that woke: nothing is left to be evaluated or handed out, no task was
+-- made, and who waited waits on or is told
 pub record Settled (old new : Work) : Type 0 where
   pub still : IsStill new.store
   pub due : new.due.items ≡ []
+  pub listing : new.store.book.catalogue ≡ old.store.book.catalogue
   pub tickets : new.store.tickets ≡ old.store.tickets
   pub hands_on : HandsOn old.waiters new.waiters
   pub goes_on : GoesOn old new

@@ -8,5 +8,6 @@ pub mod Serving
 pub mod Steps
 pub mod Waiting
 pub mod Keeping
+pub mod Observing
 pub mod Running
 pub mod Settling

@@ -30,7 +30,7 @@ impl Desk {
     ghost use Rattle.stm_desk.specs.declared.waiters.Waiting.{Waiting};
     ghost use Rattle.txn_programs.specs.Listing.{IsCallable};
     ghost use Rattle.stm_store.specs.Keeping.{HasBrought, KeepsTasks};
-    ghost use Rattle.stm_desk.specs.Asking.{IsStill};
+    ghost use Rattle.stm_desk.specs.Asking.{IsStill, StaysInChapter};
     ghost use Rattle.stm_desk.specs.Answering.{HasBroughtIn, HasRun, IsAsked, IsLent};
     ghost use Rattle.stm_desk.specs.Running.{HandsOut, IsHanded, IsLong};
     ghost use Rattle.stm_desk.specs.Serving.{HasLeft, OnlyLeft};
@@ -86,6 +86,7 @@ impl Desk {
         ensures closed { self.new.work.closed ≡ self.old.work.closed }
         ensures last { self.new.work.last ≡ self.old.work.last }
         ensures chapter { self.new.work.store.chapter ≡ self.old.work.store.chapter }
+        ensures within { StaysInChapter self.old.work.store self.new.work.store }
         ensures long { self.new.work.long.items ≡ self.old.work.long.items }
         ensures lent { way ≡ Way.Waits → IsLong self.old.work.long.items tx → IsLent result }
         ensures memory { result ≡ Err Refused.Memory → way ≡ Way.Tries

@@ -2,8 +2,8 @@
 //!
 //! `answers` has what is answered; `waiters` the calls that wait, and what is still to be told of those that waited;
 //! `work` a store with both, in the midst of a call; `serving` the turns, and `long` the calls that are evaluated
-//! outside; `ended` and `chapters` the chapters that end, and `room` the calls that find one full; `desk` what is so
-//! whenever a call returns.
+//! outside; `observing` how a call would end; `ended` and `chapters` the chapters that end, and `room` the calls that
+//! find one full; `desk` what is so whenever a call returns.
 #![tactic(auto)]
 
 mod answers;
@@ -13,6 +13,7 @@ mod ended;
 pub mod laws;
 mod long;
 mod noting;
+mod observing;
 mod room;
 mod serving;
 mod waiters;

@@ -3,7 +3,7 @@
 ghost use Rattle.std.specs.Prelude.{◌≡◌, ◌↔◌, IsTrue, false, true};
 ghost use Rattle.txn_programs.specs.Listing.{IsCallable};
 ghost use Rattle.stm_store.specs.declared.answers.Way.TheVariants as Way;
-ghost use Rattle.stm_desk.specs.Asking.{GoesOn, IsServed};
+ghost use Rattle.stm_desk.specs.Asking.{GoesOn, IsServed, StaysInChapter};
 ghost use Rattle.stm_desk.specs.Running.{AreAwaited, IsBegun, IsLong};
 
 use crate::answers::Asked;
@@ -37,6 +37,7 @@ impl Work {
         ensures begun { IsBegun self.old call.now whose result self.new }
         ensures served { IsServed self.old.store → IsServed self.new.store }
         ensures awaited { AreAwaited self.old.store self.old.waiters → AreAwaited self.new.store self.new.waiters }
+        ensures within { StaysInChapter self.old.store self.new.store }
         ensures goes_on { GoesOn self.old self.new }
     {
         self.store.law();

@@ -55,7 +55,7 @@ impl Work {
     ghost use Rattle.txn_programs.specs.Listing.{IsCallable};
     ghost use Rattle.stm_store.specs.Asking.{GivesUp};
     ghost use Rattle.stm_store.specs.Keeping.{KeepsTasks};
-    ghost use Rattle.stm_desk.specs.Asking.{GoesOn, IsAnswered, IsServed};
+    ghost use Rattle.stm_desk.specs.Asking.{GoesOn, IsAnswered, IsServed, StaysInChapter};
     ghost use Rattle.stm_desk.specs.Running.{AreAwaited, HandsNothingOut};
     ghost use Rattle.stm_desk.specs.Serving.{HasLeft, OnlyLeft, WasGivenUp};
     ghost use Rattle.stm_desk.specs.Waiting.{AreShutOut, IsSeated, WaitAsBefore};
@@ -105,6 +105,7 @@ impl Work {
         ensures hands_out { HandsNothingOut self.old self.new }
         ensures memory { result ≡ Err Refused.Memory → way ≡ Way.Tries
             → TakesMemory self.old.store.catalogue.now call.now.tx }
+        ensures within { StaysInChapter self.old.store self.new.store }
         ensures goes_on { GoesOn self.old self.new }
     {
         self.store.law();
@@ -151,6 +152,7 @@ impl Work {
             × WaitAsBefore self.old.waiters self.new.waiters × (self.new.due.items ≡ self.old.due.items)) }
         ensures hands_out { HandsNothingOut self.old self.new }
         ensures tickets { self.new.store.tickets ≡ self.old.store.tickets }
+        ensures listing { self.new.store.book.catalogue ≡ self.old.store.book.catalogue }
         ensures served { IsServed self.old.store → IsServed self.new.store }
         ensures awaited { AreAwaited self.old.store self.old.waiters → AreAwaited self.new.store self.new.waiters }
         ensures goes_on { GoesOn self.old self.new }

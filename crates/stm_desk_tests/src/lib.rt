@@ -8,6 +8,8 @@ mod ending;
 #[cfg(test)]
 mod long;
 #[cfg(test)]
+mod observing;
+#[cfg(test)]
 mod programs;
 #[cfg(test)]
 mod room;

@@ -1,6 +1,6 @@
 //! What a host's lock guards: the book, which publishes to the cells.
 
-ghost use Rattle.std.specs.Prelude.{◌≡◌, ◌⊎◌, ◌<◌, ◌≤◌, ◌+◌, length, All, None, [], IfOk, IfSome};
+ghost use Rattle.std.specs.Prelude.{◌≡◌, ◌⊎◌, ◌<◌, ◌≤◌, ◌+◌, length, All, None, [], IfOk, IfSome, false};
 ghost use Rattle.std.specs.Coded.{codes};
 ghost use Rattle.txn.specs.Codes.{coded_listing};
 ghost use Rattle.txn_programs.specs.declared.limits.TheConstants.{MAX_TASKS};
@@ -82,6 +82,7 @@ impl Store {
         ensures given { IfOk result (λ s. s.tickets.given ≡ length (tasks program.catalogue.now)) }
         ensures catalogue { IfOk result (λ s. s.catalogue.now ≡ program.catalogue.now) }
         ensures workers { IfOk result (λ s. length s.passes.items ≡ workers) }
+        ensures unread { workers ≡ 0 → IfOk result (λ s. s.cells.are_read ≡ false) }
         ensures every { IfOk result (λ s. s.every ≡ every) }
         ensures chapter { IfOk result (λ s. s.chapter ≡ 0) }
     {
@@ -105,6 +106,7 @@ impl Store {
         ensures given { IfOk result (λ s. s.tickets.given ≡ length (tasks program.catalogue.now)) }
         ensures catalogue { IfOk result (λ s. s.catalogue.now ≡ program.catalogue.now) }
         ensures workers { IfOk result (λ s. length s.passes.items ≡ workers) }
+        ensures unread { workers ≡ 0 → IfOk result (λ s. s.cells.are_read ≡ false) }
         ensures every { IfOk result (λ s. s.every ≡ every) }
         ensures chapter { IfOk result (λ s. s.chapter ≡ 0) }
     {

@@ -2,6 +2,7 @@ use Rattle.std.proofs.Common.{ℤ, Bool, List, subst}
 use Rattle.txn_programs.proofs.Lawful.{few_arguments}
 use Rattle.stm_desk.specs.Running.{IsBegun, IsLong}
 use Rattle.stm_desk.proofs.Answered.{begun_asked, begun_lent}
+use Rattle.stm_desk.proofs.Within.{stays_both, stays_same, stays_then, stays_turned}
 use Rattle.stm_desk.proofs.desk.Desk.ask.Goals as goal
 
 pub of-requires : goal.of-requires

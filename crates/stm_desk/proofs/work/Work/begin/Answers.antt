@@ -12,6 +12,7 @@ use Rattle.stm_desk.proofs.Becoming.{unchanged_alike}
 use Rattle.stm_desk.proofs.Turned.{none_begun, turned_back}
 use Rattle.stm_desk.proofs.Seats.{nobody_new}
 use Rattle.stm_desk.proofs.Settling.{alike_keeps, kept_of}
+use Rattle.stm_desk.proofs.Within.{stays_submitted, stays_then, stays_turned}
 use Rattle.stm_desk.proofs.work.Work.begin.Goals as goal
 
 -- it was refused
@@ -162,6 +163,36 @@ returns-in-Err-clause-begun c =
     let kept = c.in-Err.ensures.kept in
     let h = subst (λ (xs : List ℤ). Submits s.store c.args.call.now.tx xs (Err c.in-Err.field-0) new) c.as_slice.ensures.value c.in-Err.ensures.submitted in
     none_begun s _ c.args.call.now c.args.whose c.turned_away.result (none_full s.store new c.args.call.now c.in-Err.field-0 h)
+    (turned_back s _ _ c.turned_away.result c.turned_away.ensures.turned
+    (record { store = none_unchanged s.store new c.args.call.now c.in-Err.field-0 h; waiters = refl; history = refl; due = refl })
+    (record { first = refl; long = refl; catalogue = kept.catalogue; chapter = kept.chapter; closed = refl; last = refl; history = ([], sym (append-nil s.history.items)) }))
+
+-- the chapter goes on
+pub returns-in-Ok-claim-clause-within : goal.returns-in-Ok-claim-clause-within
+returns-in-Ok-claim-clause-within c =
+    let s = c.args.self.now in
+    let mid = c.submit.new.self in
+    let call = c.args.call.now in
+    let ticket = c.in-Ok.ticket in
+    let sub = is_submitted s.store mid call c.as_slice.result.now ticket c.as_slice.ensures.value c.in-Ok.ensures.kept c.law.ensures.each c.law.ensures.tickets c.law.ensures.fits c.in-Ok.ensures.submitted in
+    stays_then s.store mid c.claim.new.self (stays_submitted s.store mid call ticket sub) c.in-Ok-claim.ensures.kept.listing
+
+pub returns-in-Err-seat-clause-within : goal.returns-in-Err-seat-clause-within
+returns-in-Err-seat-clause-within c =
+    let s = c.args.self.now in
+    let mid = c.submit.new.self in
+    let call = c.args.call.now in
+    let ticket = c.in-Ok.ticket in
+    let sub = is_submitted s.store mid call c.as_slice.result.now ticket c.as_slice.ensures.value c.in-Ok.ensures.kept c.law.ensures.each c.law.ensures.tickets c.law.ensures.fits c.in-Ok.ensures.submitted in
+    stays_then s.store mid c.give_up.new.self.store (stays_submitted s.store mid call ticket sub) c.give_up.ensures.kept.listing
+
+pub returns-in-Err-clause-within : goal.returns-in-Err-clause-within
+returns-in-Err-clause-within c =
+    let s = c.args.self.now in
+    let new = c.submit.new.self in
+    let kept = c.in-Err.ensures.kept in
+    let h = subst (λ (xs : List ℤ). Submits s.store c.args.call.now.tx xs (Err c.in-Err.field-0) new) c.as_slice.ensures.value c.in-Err.ensures.submitted in
+    stays_turned s _ c.turned_away.result
     (turned_back s _ _ c.turned_away.result c.turned_away.ensures.turned
     (record { store = none_unchanged s.store new c.args.call.now c.in-Err.field-0 h; waiters = refl; history = refl; due = refl })
     (record { first = refl; long = refl; catalogue = kept.catalogue; chapter = kept.chapter; closed = refl; last = refl; history = ([], sym (append-nil s.history.items)) }))

@@ -1,5 +1,6 @@
 use Rattle.std.proofs.Common.{◌∙◌, ℤ, List, [], ◌∷◌, ◌++◌, refl, sym, ap, subst}
 use Rattle.std.proofs.Math.Logic.{∥∥₁_map}
+use Rattle.book.specs.View.{BookView}
 use Rattle.stm_store.specs.Turning.{RefusesCall}
 use Rattle.stm_store.specs.declared.job.Ticket.{Ticket}
 use Rattle.stm_desk.specs.declared.answers.Became.TheVariants as became
@@ -12,6 +13,7 @@ use Rattle.stm_desk.proofs.Calling.{IsCalled, call_abandons, call_enters, call_m
 use Rattle.stm_desk.proofs.Legal.{accounts_become, accounts_stay, counted_more, place_left, stayed_over}
 use Rattle.stm_desk.proofs.Seats.{AreTold, all_told_on, nobody_new, seated_alike, seated_still, waits_as_before}
 use Rattle.stm_desk.proofs.Settling.{alike_awaited, alike_hands_out}
+use Rattle.stm_desk.proofs.Within.{stays_called, stays_same, stays_then}
 use Rattle.stm_desk.proofs.work.Work.call.Goals as goal
 
 -- it was refused
@@ -287,3 +289,26 @@ returns-in-Abandoned-clause-memory c same tries =
 
 pub returns-in-Parked-clause-memory : goal.returns-in-Parked-clause-memory
 returns-in-Parked-clause-memory c same tries = absurd (c.in-Ok.ensures.called.1 tries c.in-Parked.is)
+
+-- the chapter goes on
+pub returns-in-Err-clause-within : goal.returns-in-Err-clause-within
+returns-in-Err-clause-within c =
+    stays_same c.args.self.now.store c.call-called.new.self (ap (λ (b : BookView). b.catalogue) c.in-Err.ensures.called.1.0)
+
+pub returns-in-Entered-clause-within : goal.returns-in-Entered-clause-within
+returns-in-Entered-clause-within c =
+    let s = c.args.self.now in
+    let is = is_called s.store c.call-called.new.self c.args.call.now c.as_slice.result.now c.in-Ok.turn.0 c.in-Ok.turn.1 c.as_slice.ensures.value c.law.ensures.declared c.law.ensures.fits c.law.ensures.each c.law.ensures.tickets c.in-Ok.ensures.kept c.in-Ok.ensures.called.0 in
+    stays_called s.store c.call-called.new.self c.args.call.now c.in-Ok.turn.0 c.in-Ok.turn.1 is
+
+pub returns-in-Abandoned-clause-within : goal.returns-in-Abandoned-clause-within
+returns-in-Abandoned-clause-within c =
+    let s = c.args.self.now in
+    let is = is_called s.store c.call-called.new.self c.args.call.now c.as_slice.result.now c.in-Ok.turn.0 c.in-Ok.turn.1 c.as_slice.ensures.value c.law.ensures.declared c.law.ensures.fits c.law.ensures.each c.law.ensures.tickets c.in-Ok.ensures.kept c.in-Ok.ensures.called.0 in
+    stays_called s.store c.call-called.new.self c.args.call.now c.in-Ok.turn.0 c.in-Ok.turn.1 is
+
+pub returns-in-Parked-clause-within : goal.returns-in-Parked-clause-within
+returns-in-Parked-clause-within c =
+    let s = c.args.self.now in
+    let is = is_called s.store c.call-called.new.self c.args.call.now c.as_slice.result.now c.in-Ok.turn.0 c.in-Ok.turn.1 c.as_slice.ensures.value c.law.ensures.declared c.law.ensures.fits c.law.ensures.each c.law.ensures.tickets c.in-Ok.ensures.kept c.in-Ok.ensures.called.0 in
+    stays_then s.store c.call-called.new.self c.sit.new.self.store (stays_called s.store c.call-called.new.self c.args.call.now c.in-Ok.turn.0 c.in-Ok.turn.1 is) c.sit.ensures.listing

@@ -13,6 +13,7 @@ returns-clause-ended c =
     let settled : Settled s mid = record {
       still = c.serve_all.ensures.settled.still;
       due = c.serve_all.ensures.settled.due;
+      listing = c.serve_all.ensures.settled.listing;
       tickets = c.serve_all.ensures.settled.tickets;
       hands_on = c.serve_all.ensures.settled.hands_on;
       goes_on = record { first = g.first; long = g.long; catalogue = g.catalogue; chapter = g.chapter; closed = g.closed; last = g.last ∙ none.0; history = g.history };

@@ -49,6 +49,7 @@ returns-clause-settled c =
     record {
       still = c.serve_next.ensures.still refl c.loop.invariant.still;
       due = c.clear.ensures.items;
+      listing = c.serve_next.ensures.kept.listing ∙ c.loop.invariant.kept.listing;
       tickets = c.serve_next.ensures.kept.tickets ∙ c.loop.invariant.kept.tickets;
       hands_on = hands_both _ _ _ c.loop.invariant.hands_on c.serve_next.ensures.hands_on;
       goes_on = record { first = g.first; long = g.long; catalogue = g.catalogue; chapter = g.chapter; closed = g.closed; last = g.last; history = g.history };
