@@ -22,7 +22,7 @@ use Rattle.stm_desk.specs.History.{Begins, History, IsLegal, led}
 use Rattle.stm_desk.specs.Keeping.{Accounts}
 use Rattle.stm_sharing.specs.declared.behind.Begun.{Begun}
 use Rattle.stm_sharing.specs.declared.behind.Begun.TheVariants as begun
-use Rattle.stm_sharing.specs.Beginning.{IsBegun, IsNew, IsWaiting}
+use Rattle.stm_sharing.specs.Beginning.{HasPassedOn, IsBegun, IsNew, IsWaiting}
 use Rattle.stm_sharing.specs.Telling.{HasNoEntry, IsEnteredBehind, WasLeftBehind}
 use Rattle.stm_sharing.proofs.Histories.{begins_shorter, get_begins, last_is, next_is}
 use Rattle.stm_sharing.proofs.Joining.{begins_on}
@@ -137,3 +137,23 @@ waiting_begun l m before now call way (begun.Refused refused.Closed) waits h = a
 waiting_begun l m before now call way (begun.Refused refused.TimedOut) waits h = absurd h
 waiting_begun l m before now call way (begun.Ended a) waits h = absurd h
 waiting_begun l m before now call way begun.Again waits h = absurd h
+waiting_begun l m before now call way (begun.Later sayings) waits h = absurd h
+
+-- where the chapter was full
+pub passed_begun : (l : Listing) (m : State) (before now : History) (call : Call) (way : Way) (b : Begun) → HasPassedOn before b now → IsBegun l m before call way b now
+passed_begun l m before now call way begun.Again h = h
+passed_begun l m before now call way (begun.Later sayings) h = h
+passed_begun l m before now call way (begun.Refused refused.NoRoom) h = (h, ∣ tt ∣₁)
+passed_begun l m before now call way (begun.Refused refused.Unknown) h = absurd h
+passed_begun l m before now call way (begun.Refused refused.Gone) h = absurd h
+passed_begun l m before now call way (begun.Refused refused.NotReady) h = absurd h
+passed_begun l m before now call way (begun.Refused refused.NotRunning) h = absurd h
+passed_begun l m before now call way (begun.Refused refused.NotEnded) h = absurd h
+passed_begun l m before now call way (begun.Refused refused.OtherProgram) h = absurd h
+passed_begun l m before now call way (begun.Refused refused.Stale) h = absurd h
+passed_begun l m before now call way (begun.Refused refused.Retries) h = absurd h
+passed_begun l m before now call way (begun.Refused refused.Memory) h = absurd h
+passed_begun l m before now call way (begun.Refused refused.Closed) h = absurd h
+passed_begun l m before now call way (begun.Refused refused.TimedOut) h = absurd h
+passed_begun l m before now call way (begun.Ended a) h = absurd h
+passed_begun l m before now call way (begun.Waits awaited bell) h = absurd h

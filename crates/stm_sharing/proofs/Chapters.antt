@@ -50,10 +50,10 @@ carries_begun old new done h t seat there =
     carries_equal more.0.waiters new.waiters more.2.waiters t seat (carries_hands_on old.waiters more.0.waiters more.1.hands_on t seat there)
 
 -- there is no room only where the next chapter would have none
-pub none_next : (old new : Desk) (call : Call) (way : Way) (r : Result Asked Refused) → ∥ new.work.last ≡ last.Kept ∥₁ → IsAsked old call way 0 r new → r ≡ Err refused.NoRoom → HasRoomNext new.work.store → ⊥
-none_next old new call way r kept h is room =
+pub none_next : (old new : Desk) (call : Call) (way : Way) (r : Result Asked Refused) → (IsNotKept new.work.last → ⊥) → IsAsked old call way 0 r new → r ≡ Err refused.NoRoom → HasRoomNext new.work.store → ⊥
+none_next old new call way r none_lies h is room =
     let none : IsAsked old call way 0 (Err refused.NoRoom) new = subst (λ (x : Result Asked Refused). IsAsked old call way 0 x new) is h in
-    none.2.1 (record { room = room; none_lies = λ lies. ∥∥₁_elim kept (λ p q. absurd p) (λ (e : new.work.last ≡ last.Kept). subst IsNotKept e lies) })
+    none.2.1 (record { room = room; none_lies = none_lies })
 
 -- whoever waits was not told that there is no room
 pub waits_not_full : (before : History) (call : Call) (b : Begun) (now : History) → IsWaiting before call b now → b ≡ begun.Refused refused.NoRoom → ⊥

@@ -8,6 +8,7 @@ use Rattle.std.specs.contracts.sync.Mutex as mutex
 use Rattle.book.proofs.Crossing.{catalogue_sync}
 use Rattle.stm_desk.proofs.Crossing.{desk_send}
 use Rattle.stm_sharing.specs.declared.name.Naming.{Ghosts}
+use Rattle.stm_sharing.proofs.chapter.Shelf.TheSendSync as shelf
 use Rattle.stm_sharing.proofs.front.Front.TheSendSync as front
 use Rattle.stm_sharing.proofs.front.Head.TheSendSync as head
 use Rattle.stm_sharing.proofs.seat.Seat.TheSendSync as seat
@@ -19,6 +20,7 @@ behind_send N n s =
     let e = seat.the_send N n in
     let f = front.the_send N n in
     let h = head.the_send N n in
+    let k = shelf.the_send N n in
     declared_send (behind.the_type N n) (
       search (sendable, crosses) depth 20,
       (
@@ -27,7 +29,13 @@ behind_send N n s =
           search (sendable, crosses) depth 20,
           (
             search (sendable, crosses) depth 20,
-            (search (sendable, crosses, maps.crosses) depth 30, tt),
+            (
+              search (sendable, crosses) depth 20,
+              (
+                search (sendable, crosses, maps.crosses) depth 30,
+                (search (sendable, crosses) depth 20, (search (sendable, crosses) depth 20, tt)),
+              ),
+            ),
           ),
         ),
       ),
@@ -40,4 +48,10 @@ pub service_sync : (N : RattleType) (n : Ghosts N.Denot) → IsSend N → IsSync
 service_sync N n s =
     let c = catalogue_sync in
     let r = shr_sync in
-    declared_sync (service.the_type N n) (search (sendable, crosses) depth 60, (behind_sync N n s, tt))
+    declared_sync (service.the_type N n) (
+      search (sendable, crosses) depth 60,
+      (
+        search (sendable, crosses) depth 60,
+        (behind_sync N n s, (search (sendable, crosses) depth 60, (search (sendable, crosses) depth 60, tt))),
+      ),
+    )

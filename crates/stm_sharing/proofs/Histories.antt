@@ -18,13 +18,17 @@ use Rattle.stm_desk.specs.History.{Begins, History}
 use Rattle.stm_desk.specs.Keeping.{IsEntry, IsLeft}
 use Rattle.stm_sharing.specs.Beginning.{IsNew}
 use Rattle.stm_sharing.specs.Telling.{IsAnswered, IsEnteredBehind, IsTold}
-use Rattle.stm_sharing.proofs.Lists.{get_at_end, get_on, get_within}
+use Rattle.stm_sharing.proofs.Lists.{get_at_end, get_on, get_within, prefix_whole}
 
 pub get_begins : (h longer : History) (k : ℕ) (e : Ticket × Became) → Begins h longer → slice_get h k ≡ Some e → slice_get longer k ≡ Some e
 get_begins h longer k e b at = subst (λ (x : History). slice_get x k ≡ Some e) (sym b.1) (get_on h b.0 k e at)
 
 pub begins_shorter : (h longer : History) → Begins h longer → length h ≤ length longer
 begins_shorter h longer b = omega (arith, ap length b.1, length-append h b.0)
+
+-- of two of which each begins the other
+pub begins_both : (a b : History) → Begins a b → Begins b a → a ≡ b
+begins_both a b p q = prefix_whole a b (p.0, sym p.1) (begins_shorter b a q)
 
 -- what was added last
 pub last_is : (h longer : History) (t : Ticket) (what : Became) → longer ≡ h ++ (t, what) ∷ [] → slice_get longer (length h) ≡ Some (t, what)

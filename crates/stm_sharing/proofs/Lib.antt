@@ -6,4 +6,6 @@ pub mod Waiting
 pub mod Asking
 pub mod InTime
 pub mod Chapters
+pub mod Keeping
+pub mod Looking
 pub mod Crossing

@@ -30,9 +30,18 @@ IsWaiting before call (begun.Waits awaited bell) now = (now ≡ before) × (awai
 IsWaiting before call (begun.Refused refused.Memory) now = Begins before now × WasLeftBehind before now
 IsWaiting before call _ now = ⊥
 
+-- where the chapter was full the next one has begun, or is to begin later, and its caller, who is to call again, has
+-- seen nothing more; or it can't begin
+abbrev pub HasPassedOn : History → Begun → History → Type 0
+HasPassedOn before begun.Again now = now ≡ before
+HasPassedOn before (begun.Later sayings) now = now ≡ before
+HasPassedOn before (begun.Refused refused.NoRoom) now = Begins before now
+HasPassedOn before _ now = ⊥
+
 -- it was answered, and its caller has seen why; or its caller waits, or is to call again, and has seen nothing more
 abbrev pub IsBegun : Listing → State → History → Call → Way → Begun → History → Type 0
 IsBegun l first before call way begun.Again now = now ≡ before
+IsBegun l first before call way (begun.Later sayings) now = now ≡ before
 IsBegun l first before call way (begun.Waits awaited bell) now =
     (way ≡ ways.Waits) × (now ≡ before) × (awaited.call ≡ call) × IsNew before awaited.ticket
 IsBegun l first before call way (begun.Ended a) now = Begins before now × IsEnteredBehind before call a now

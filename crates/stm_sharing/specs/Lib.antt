@@ -1,3 +1,5 @@
 pub mod Beginning
+pub mod Keeping
+pub mod Looking
 pub mod Pieces
 pub mod Telling

@@ -1,6 +1,6 @@
 //! Calls from any thread.
 
-ghost use Rattle.std.specs.Prelude.{◌≡◌, ◌≢◌, [], Err, IfSome, None};
+ghost use Rattle.std.specs.Prelude.{◌≡◌, ◌≢◌, [], true, false, Err, IfSome, None};
 ghost use Rattle.std.specs.Coded.{codes};
 ghost use Rattle.txn.specs.Codes.{coded_listing};
 ghost use Rattle.txn_programs.specs.Listing.{IsCallable};
@@ -25,13 +25,19 @@ use txn::{Arguments, Call, Catalogue, TxId};
 #[derive(Drop)]
 pub struct Service<N: Naming> {
     pub(crate) catalogue: &'static Catalogue,
+    /// Whether its host keeps the chapters.
+    pub(crate) keeps: bool,
     pub(crate) behind: Mutex<Behind<N>>,
+    /// It rings where the host can take a chapter.
+    pub(crate) ended: Condvar,
+    /// It rings where the host has said how it went with one.
+    pub(crate) said: Condvar,
     ghost named: { catalogue.now ≡ N.catalogue } by { Prim.hlevel (codes, coded_listing) },
 }
 
 impl<N: Naming> Service<N> {
     /// The service of a store, whose ready tasks have had their turns then, and a front that has seen nothing of it.
-    /// None of the store's tasks may be running.
+    /// None of the store's tasks may be running. Chapters begin by themselves, and nobody keeps them.
     ///
     /// A host is generic in the name `N`, and calls itself with the store's program and values, and with the history
     /// that it opened, for it.
@@ -45,13 +51,56 @@ impl<N: Naming> Service<N> {
         requires placed { store.book.present.state ≡ N.first }
         requires book { opened.seen.book ≡ N.book }
         requires still { IsStill store }
-        ensures { result.1 ≡ [] }
+        ensures keeps { result.0.keeps ≡ false }
+        ensures front { result.1 ≡ [] }
+    {
+        Service::open_as(rt, alloc, store, opened, false)
+    }
+
+    /// As `open`, of a service whose host keeps the chapters: it takes each that ended by `told_chapter`, and says by
+    /// `chapter_kept` or `chapter_not_kept` how it went. Until then there is room for one chapter more; who calls where
+    /// that is full too waits until the host has said so. Of the store nothing may have been entered in its present
+    /// chapter.
+    pub fn open_keeping<R: Wait>(
+        rt: &R,
+        alloc: Global,
+        store: Store,
+        opened: Opened,
+    ) -> (Service<N>, Front<N>)
+        requires named { store.catalogue.now ≡ N.catalogue }
+        requires placed { store.book.present.state ≡ N.first }
+        requires book { opened.seen.book ≡ N.book }
+        requires still { IsStill store }
+        requires fresh { store.book.catalogue.initial ≡ N.first }
+        ensures keeps { result.0.keeps ≡ true }
+        ensures front { result.1 ≡ [] }
+    {
+        Service::open_as(rt, alloc, store, opened, true)
+    }
+
+    fn open_as<R: Wait>(
+        rt: &R,
+        alloc: Global,
+        store: Store,
+        opened: Opened,
+        are_kept: bool,
+    ) -> (Service<N>, Front<N>)
+        requires named { store.catalogue.now ≡ N.catalogue }
+        requires placed { store.book.present.state ≡ N.first }
+        requires book { opened.seen.book ≡ N.book }
+        requires still { IsStill store }
+        requires fresh { are_kept ≡ true → store.book.catalogue.initial ≡ N.first }
+        ensures keeps { result.0.keeps ≡ are_kept }
+        ensures front { result.1 ≡ [] }
     {
         let catalogue = store.catalogue();
-        let (behind, front) = Behind::new(rt, alloc, store, opened);
+        let (behind, front) = Behind::new(rt, alloc, store, opened, are_kept);
         let service = Service {
             catalogue,
+            keeps: are_kept,
             behind: Mutex::new(behind),
+            ended: Condvar::new(),
+            said: Condvar::new(),
         };
         (service, front)
     }
@@ -62,8 +111,9 @@ impl<N: Naming> Service<N> {
     ///
     /// `Unknown` exactly where there is no such transaction, or it has not as many parameters as there are arguments.
     /// `Memory`: a growth was refused, and its task was given up, which the front has then seen. `NoRoom`: each place
-    /// is of a task that waits; where a chapter is full, but the next one has room, that one begins. `Closed`: the
-    /// service is closed. It is never another one.
+    /// is of a task that waits; where a chapter is full, but the next one has room, that one begins. It is also
+    /// answered where the chapter is full, and the host did not keep the one before, or memory for the texts of this
+    /// one was refused. `Closed`: the service is closed. It is never another one.
     pub fn atomically<R: Wait>(
         &self,
         rt: &R,
@@ -100,6 +150,8 @@ impl<N: Naming> Service<N> {
     /// entered stays.
     pub fn close<R: Wait>(&self, rt: &R) {
         self.behind.lock(rt).close(rt);
+        self.said.notify_all();
+        self.ended.notify_all();
     }
 
     /// Both, by the way.
@@ -164,7 +216,17 @@ impl<N: Naming> Service<N> {
             Begun::Ended(answer) => Some(Ok(answer)),
             Begun::Waits(awaited, bell) => Some(self.wait_for(rt, &awaited, &bell, front)),
             Begun::Refused(why) => Some(Err(why)),
-            Begun::Again => None,
+            Begun::Again => {
+                self.ended.notify_all();
+                None
+            }
+            Begun::Later(sayings) => {
+                if self.wait_for_host(rt, sayings) {
+                    None
+                } else {
+                    Some(Err(Refused::NoRoom))
+                }
+            }
         }
     }
 

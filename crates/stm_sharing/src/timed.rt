@@ -19,7 +19,7 @@ use txn::{Arguments, Call, TxId};
 
 /// The time that a call may take.
 #[derive(Clone, Copy)]
-struct Time {
+pub(crate) struct Time {
     /// `None` where the clock could not be read.
     start: Option<Instant>,
     length: Duration,
@@ -27,7 +27,7 @@ struct Time {
 
 impl Time {
     /// So long from now on.
-    fn from_now(clock: &impl Clock, length: Duration) -> Time {
+    pub(crate) fn from_now(clock: &impl Clock, length: Duration) -> Time {
         Time {
             start: Instant::now(clock).ok(),
             length,
@@ -35,7 +35,7 @@ impl Time {
     }
 
     /// How much of it is left. `None` where it is up, or the clock cannot be read.
-    fn left(&self, clock: &impl Clock) -> Option<Duration> {
+    pub(crate) fn left(&self, clock: &impl Clock) -> Option<Duration> {
         let left = self.length.checked_sub(self.start?.elapsed(clock).ok()?)?;
         if left.is_zero() { None } else { Some(left) }
     }
@@ -43,7 +43,8 @@ impl Time {
 
 impl<N: Naming> Service<N> {
     /// As `atomically`, for at most this time: then the answer is `TimedOut`, and its task was given up, which the
-    /// front has then seen. Where its task was entered before, its entry is the answer.
+    /// front has then seen. Where its task was entered before, its entry is the answer. Where the time is up while it
+    /// waits for the host to say how it went with a chapter, there is no task of it, and the answer is `NoRoom`.
     pub fn atomically_within<R: Wait + Clock>(
         &self,
         rt: &R,
@@ -106,7 +107,17 @@ impl<N: Naming> Service<N> {
             Begun::Ended(answer) => Some(Ok(answer)),
             Begun::Waits(awaited, bell) => Some(self.wait_within(rt, &awaited, &bell, time, front)),
             Begun::Refused(why) => Some(Err(why)),
-            Begun::Again => None,
+            Begun::Again => {
+                self.ended.notify_all();
+                None
+            }
+            Begun::Later(sayings) => {
+                if self.wait_for_host_within(rt, sayings, time) {
+                    None
+                } else {
+                    Some(Err(Refused::NoRoom))
+                }
+            }
         }
     }
 

@@ -4,4 +4,10 @@
 #[cfg(test)]
 mod calls;
 #[cfg(test)]
+mod keepers;
+#[cfg(test)]
+mod keeping;
+#[cfg(test)]
+mod looks;
+#[cfg(test)]
 mod played;

@@ -3,6 +3,7 @@
 ghost use Rattle.std.specs.Prelude.{◌≡◌};
 ghost use Rattle.stm_desk.specs.Asking.{IsStill};
 
+use crate::keepers::{decline, keep, keep_all};
 use std::alloc::Global;
 use std::marker::Brand;
 use std::process::Abort;
@@ -40,6 +41,16 @@ pub(crate) enum Step {
     Both(TxId, TxId),
     /// Once, when it has closed the service.
     Closes(TxId),
+    /// With this argument, so often.
+    GivesOften(TxId, i64, u32),
+    /// With this argument, until a call is refused; then it closes the service.
+    GivesUntilRefused(TxId, i64),
+    /// Takes so many chapters, one after another, and keeps them.
+    Keeps(u32),
+    /// Takes what ends and keeps nothing, until the service is closed: then it keeps the last.
+    Declines(TxId, i64),
+    /// Calls so often with this argument, closes the service, and keeps all that ended.
+    ClosesAndKeeps(TxId, i64, u32),
 }
 
 /// What a thread was answered.
@@ -51,6 +62,13 @@ pub(crate) struct Answered {
     pub(crate) refused: u32,
     /// How many answers stand behind the thread's answer before.
     pub(crate) behind: u32,
+    /// How many chapters it kept, and how many of them follow the one that it kept before.
+    pub(crate) kept: u32,
+    pub(crate) following: u32,
+    /// How often it was told a chapter that it did not keep.
+    pub(crate) declined: u32,
+    /// Why it was told no chapter more.
+    pub(crate) untold: Option<Refused>,
     last: Option<u64>,
 }
 
@@ -60,6 +78,10 @@ pub(crate) const NOTHING: Answered = Answered {
     retried: 0,
     refused: 0,
     behind: 0,
+    kept: 0,
+    following: 0,
+    declined: 0,
+    untold: None,
     last: None,
 };
 
@@ -75,7 +97,7 @@ impl Answered {
         self.last = Some(place);
     }
 
-    fn note(&mut self, answer: Result<Answer, Refused>) {
+    pub(crate) fn note(&mut self, answer: Result<Answer, Refused>) {
         match answer {
             Ok(answer) => {
                 self.note_place(answer.place);
@@ -146,6 +168,67 @@ fn play<R: Wait + Clock, N: Naming>(
             service.close(rt);
             answered.note(service.atomically(rt, tx, &[], front));
         }
+        _ => play_with_chapters(rt, service, step, front, answered),
+    }
+}
+
+/// The same of the steps of a service whose chapters are kept.
+fn play_with_chapters<R: Wait + Clock, N: Naming>(
+    rt: &R,
+    service: &Service<N>,
+    step: Step,
+    front: &mut Front<N>,
+    answered: &mut Answered,
+) {
+    match step {
+        Step::GivesOften(tx, argument, times) => {
+            give_often(rt, service, tx, argument, times, front, answered);
+        }
+        Step::GivesUntilRefused(tx, argument) => {
+            give_until_refused(rt, service, tx, argument, front, answered);
+        }
+        Step::Keeps(times) => keep(rt, service, times, answered),
+        Step::Declines(tx, argument) => decline(rt, service, tx, argument, front, answered),
+        Step::ClosesAndKeeps(tx, argument, times) => {
+            give_often(rt, service, tx, argument, times, front, answered);
+            service.close(rt);
+            keep_all(rt, service, answered);
+        }
+        _ => {}
+    }
+}
+
+/// Calls with this argument, so often.
+fn give_often<R: Wait, N: Naming>(
+    rt: &R,
+    service: &Service<N>,
+    tx: TxId,
+    argument: i64,
+    times: u32,
+    front: &mut Front<N>,
+    answered: &mut Answered,
+) {
+    for _ in 0..times {
+        answered.note(service.atomically(rt, tx, &[argument], front));
+    }
+}
+
+/// Calls with this argument until one is refused, and closes the service then.
+fn give_until_refused<R: Wait, N: Naming>(
+    rt: &R,
+    service: &Service<N>,
+    tx: TxId,
+    argument: i64,
+    front: &mut Front<N>,
+    answered: &mut Answered,
+) {
+    for _ in rt.forever() {
+        let answer = service.atomically(rt, tx, &[argument], front);
+        answered.note(answer);
+        if answer.is_err() {
+            service.close(rt);
+            return;
+        }
     }
 }
 
@@ -191,14 +274,20 @@ fn played_by<R: Threads + Wait + Clock + Sync, N: Naming + Sync>(
     alloc: Global,
     store: Store,
     opened: Opened,
+    keeping: bool,
     steps: &[Step],
 ) -> Vec<Answered>
     requires named { store.catalogue.now ≡ N.catalogue }
     requires placed { store.book.present.state ≡ N.first }
     requires book { opened.seen.book ≡ N.book }
     requires still { IsStill store }
+    requires fresh { store.book.catalogue.initial ≡ N.first }
 {
-    let (service, first) = Service::<N>::open(rt, alloc, store, opened);
+    let (service, first) = if keeping {
+        Service::<N>::open_keeping(rt, alloc, store, opened)
+    } else {
+        Service::<N>::open(rt, alloc, store, opened)
+    };
     side_by_side(rt, alloc, &service, &first, steps)
 }
 
@@ -206,6 +295,24 @@ fn played_by<R: Threads + Wait + Clock + Sync, N: Naming + Sync>(
 pub(crate) fn played<R: Threads + Wait + Clock + Abort + Sync>(
     rt: &R,
     alloc: Global,
+    steps: &[Step],
+) -> Vec<Answered> {
+    played_as(rt, alloc, false, steps)
+}
+
+/// The same, where chapters are kept.
+pub(crate) fn played_keeping<R: Threads + Wait + Clock + Abort + Sync>(
+    rt: &R,
+    alloc: Global,
+    steps: &[Step],
+) -> Vec<Answered> {
+    played_as(rt, alloc, true, steps)
+}
+
+fn played_as<R: Threads + Wait + Clock + Abort + Sync>(
+    rt: &R,
+    alloc: Global,
+    keeping: bool,
     steps: &[Step],
 ) -> Vec<Answered> {
     let Ok(program) = Program::read(alloc, BUFFER.as_bytes()) else {
@@ -216,5 +323,5 @@ pub(crate) fn played<R: Threads + Wait + Clock + Abort + Sync>(
     let Ok(store) = Store::open_with_room(alloc, program, 0, 0, 8) else {
         panic!(rt; "no store");
     };
-    played_by::<_, Brand>(rt, alloc, store, Opened::new(), steps)
+    played_by::<_, Brand>(rt, alloc, store, Opened::new(), keeping, steps)
 }

@@ -7,6 +7,7 @@ use Rattle.stm_desk.specs.History.{Begins, History}
 use Rattle.stm_sharing.proofs.Asking.{legal_on}
 use Rattle.stm_sharing.proofs.Waiting.{awaited_on, carries_asked}
 use Rattle.stm_sharing.proofs.Chapters.{kept_on, none_next}
+use Rattle.stm_sharing.proofs.Keeping.{grows_on, none_lies_on, starts_on}
 use Rattle.stm_sharing.proofs.behind.Behind.ask.Goals as goal
 
 pub add-requires-clause-legal : goal.add-requires-clause-legal
@@ -28,12 +29,28 @@ returns-clause-grows g c =
     subst (λ (h : History). Begins s.front h) (sym c.add.ensures) (subst (λ (h : History). Begins h (history_of c.ask-asked.new.self)) (sym s.shown) c.ask-asked.ensures.history)
 
 pub invariant_of-self-clause-kept : goal.invariant_of-self-clause-kept
-invariant_of-self-clause-kept g c =
+invariant_of-self-clause-kept g c dropped =
     let s = c.args.self.now in
-    kept_on s.desk.work c.ask-asked.new.self.work c.ask-asked.ensures.last s.kept
+    kept_on s.desk.work c.ask-asked.new.self.work c.ask-asked.ensures.last (s.kept dropped)
+
+pub invariant_of-self-clause-none_lies : goal.invariant_of-self-clause-none_lies
+invariant_of-self-clause-none_lies g c =
+    let s = c.args.self.now in
+    none_lies_on s.desk.work c.ask-asked.new.self.work c.ask-asked.ensures.last s.none_lies
+
+pub invariant_of-self-clause-starts : goal.invariant_of-self-clause-starts
+invariant_of-self-clause-starts g c kept =
+    let s = c.args.self.now in
+    starts_on g.N.Naming.catalogue g.N.Naming.first s.began s.desk.work.store c.ask-asked.new.self.work.store c.ask-asked.ensures.within (s.starts kept)
+
+pub invariant_of-self-clause-grows : goal.invariant_of-self-clause-grows
+invariant_of-self-clause-grows g c =
+    let s = c.args.self.now in
+    let more : Begins s.front c.add.new.self = subst (λ (h : History). Begins s.front h) (sym c.add.ensures) (subst (λ (h : History). Begins h (history_of c.ask-asked.new.self)) (sym s.shown) c.ask-asked.ensures.history) in
+    grows_on s.began s.front c.add.new.self more s.grows
 
 pub returns-clause-full : goal.returns-clause-full
 returns-clause-full g c is room =
     let s = c.args.self.now in
     let new = c.ask-asked.new.self in
-    none_next s.desk new _ c.args.way c.ask-asked.result (kept_on s.desk.work new.work c.ask-asked.ensures.last s.kept) c.ask-asked.ensures.asked is room
+    none_next s.desk new _ c.args.way c.ask-asked.result (none_lies_on s.desk.work new.work c.ask-asked.ensures.last s.none_lies) c.ask-asked.ensures.asked is room

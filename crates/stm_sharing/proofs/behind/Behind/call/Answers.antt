@@ -3,7 +3,7 @@ use Rattle.stm_desk.specs.declared.answers.Asked.{Asked}
 use Rattle.stm_desk.specs.Answering.{IsAsked, history_of}
 use Rattle.stm_desk.specs.History.{Begins, History}
 use Rattle.stm_sharing.specs.Telling.{HasNoEntry}
-use Rattle.stm_sharing.proofs.Asking.{ended_begun, next_is_new, refused_behind}
+use Rattle.stm_sharing.proofs.Asking.{ended_begun, next_is_new, passed_begun, refused_behind}
 use Rattle.stm_sharing.proofs.Joining.{begins_on}
 use Rattle.stm_sharing.proofs.behind.Behind.call.Goals as goal
 
@@ -33,3 +33,15 @@ returns-in-Err-clause-begun g c =
       subst (λ (h : History). ∥ HasNoEntry l m before call c.args.way c.in-Err.why h ∥₁) now
           (refused_behind l m s.desk new.desk before call c.args.way c.in-Err.why s.named s.placed s.desk.work.store.declared begins c.in-Err.ensures.asked),
     )
+
+-- where the chapter was full
+pub pass_on-requires-clause-covers : goal.pass_on-requires-clause-covers
+pass_on-requires-clause-covers g c κs within =
+    begins_on c.args.front.now c.args.self.now.front c.ask.new.self.front c.if-not-covers.ensures c.ask.ensures.grows
+
+pub returns-in-Ok-ChapterFull-clause-begun : goal.returns-in-Ok-ChapterFull-clause-begun
+returns-in-Ok-ChapterFull-clause-begun g c =
+    passed_begun g.N.Naming.catalogue g.N.Naming.first c.args.front.now c.pass_on.new.front c.args.call.now c.args.way c.pass_on.result c.pass_on.ensures.passed
+
+pub returns-in-Ok-ChapterFull-clause-full : goal.returns-in-Ok-ChapterFull-clause-full
+returns-in-Ok-ChapterFull-clause-full g c dropped is room = absurd (c.pass_on.ensures.room (c.ask.ensures.kept ∙ dropped) is)

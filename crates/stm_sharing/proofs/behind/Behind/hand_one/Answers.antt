@@ -4,10 +4,12 @@ use Rattle.std.specs.List.{slice_get}
 use Rattle.std.specs.Ordering.{nat_cmp}
 use Rattle.std.proofs.lemmas.Bool.{cases_eq}
 use Rattle.std.proofs.Math.Logic.{∥∥₁_map}
+use Rattle.stm_store.specs.declared.store.Store.{Store}
 use Rattle.stm_desk.specs.History.{History}
 use Rattle.stm_sharing.specs.Telling.{IsTold}
 use Rattle.stm_sharing.proofs.Waiting.{awaited_on, awaited_rest, carries_none, next_told}
 use Rattle.stm_sharing.proofs.Chapters.{kept_on}
+use Rattle.stm_sharing.proofs.Keeping.{none_lies_on, starts_as}
 use Rattle.stm_sharing.proofs.behind.Behind.hand_one.Goals as goal
 
 pub invariant_of-self-clause-seated : goal.invariant_of-self-clause-seated
@@ -45,11 +47,31 @@ invariant_of-self-2-clause-seated g c t seat at =
     ]
 
 pub invariant_of-self-clause-kept : goal.invariant_of-self-clause-kept
-invariant_of-self-clause-kept g c =
+invariant_of-self-clause-kept g c dropped =
     let s = c.args.self.now in
-    kept_on s.desk.work c.told.new.self.work c.told.ensures.last s.kept
+    kept_on s.desk.work c.told.new.self.work c.told.ensures.last (s.kept dropped)
 
 pub invariant_of-self-2-clause-kept : goal.invariant_of-self-2-clause-kept
-invariant_of-self-2-clause-kept g c =
+invariant_of-self-2-clause-kept g c dropped =
     let s = c.args.self.now in
-    kept_on s.desk.work c.told.new.self.work c.told.ensures.last s.kept
+    kept_on s.desk.work c.told.new.self.work c.told.ensures.last (s.kept dropped)
+
+pub invariant_of-self-clause-none_lies : goal.invariant_of-self-clause-none_lies
+invariant_of-self-clause-none_lies g c =
+    let s = c.args.self.now in
+    none_lies_on s.desk.work c.told.new.self.work c.told.ensures.last s.none_lies
+
+pub invariant_of-self-clause-starts : goal.invariant_of-self-clause-starts
+invariant_of-self-clause-starts g c kept =
+    let s = c.args.self.now in
+    starts_as g.N.Naming.catalogue g.N.Naming.first s.began s.desk.work.store c.told.new.self.work.store (ap (λ (x : Store). x.book.catalogue) c.told.ensures.store) (s.starts kept)
+
+pub invariant_of-self-2-clause-none_lies : goal.invariant_of-self-2-clause-none_lies
+invariant_of-self-2-clause-none_lies g c =
+    let s = c.args.self.now in
+    none_lies_on s.desk.work c.told.new.self.work c.told.ensures.last s.none_lies
+
+pub invariant_of-self-2-clause-starts : goal.invariant_of-self-2-clause-starts
+invariant_of-self-2-clause-starts g c kept =
+    let s = c.args.self.now in
+    starts_as g.N.Naming.catalogue g.N.Naming.first s.began s.desk.work.store c.told.new.self.work.store (ap (λ (x : Store). x.book.catalogue) c.told.ensures.store) (s.starts kept)

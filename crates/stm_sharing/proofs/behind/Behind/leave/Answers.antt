@@ -10,6 +10,7 @@ use Rattle.stm_sharing.proofs.Histories.{last_is}
 use Rattle.stm_sharing.proofs.Asking.{legal_on}
 use Rattle.stm_sharing.proofs.Waiting.{awaited_but, awaited_on, carries_equal, left_same_not, nothing_there}
 use Rattle.stm_sharing.proofs.Chapters.{kept_on}
+use Rattle.stm_sharing.proofs.Keeping.{grows_on, none_lies_on, starts_as}
 use Rattle.stm_sharing.proofs.behind.Behind.leave.Goals as goal
 
 pub add-requires-clause-legal : goal.add-requires-clause-legal
@@ -53,11 +54,38 @@ returns-clause-is_left g c =
     record { place = length s.front; at_place = last_is s.front c.add.new.self c.args.ticket became.Left is }
 
 pub invariant_of-self-clause-kept : goal.invariant_of-self-clause-kept
-invariant_of-self-clause-kept g c =
+invariant_of-self-clause-kept g c dropped =
     let s = c.args.self.now in
-    kept_on s.desk.work c.leave.new.self.work c.leave.ensures.last s.kept
+    kept_on s.desk.work c.leave.new.self.work c.leave.ensures.last (s.kept dropped)
 
 pub invariant_of-self-2-clause-kept : goal.invariant_of-self-2-clause-kept
-invariant_of-self-2-clause-kept g c =
+invariant_of-self-2-clause-kept g c dropped =
     let s = c.args.self.now in
-    kept_on s.desk.work c.leave.new.self.work c.leave.ensures.last s.kept
+    kept_on s.desk.work c.leave.new.self.work c.leave.ensures.last (s.kept dropped)
+
+pub invariant_of-self-clause-none_lies : goal.invariant_of-self-clause-none_lies
+invariant_of-self-clause-none_lies g c =
+    let s = c.args.self.now in
+    none_lies_on s.desk.work c.leave.new.self.work c.leave.ensures.last s.none_lies
+
+pub invariant_of-self-2-clause-none_lies : goal.invariant_of-self-2-clause-none_lies
+invariant_of-self-2-clause-none_lies g c =
+    let s = c.args.self.now in
+    none_lies_on s.desk.work c.leave.new.self.work c.leave.ensures.last s.none_lies
+
+pub invariant_of-self-clause-starts : goal.invariant_of-self-clause-starts
+invariant_of-self-clause-starts g c kept =
+    let s = c.args.self.now in
+    starts_as g.N.Naming.catalogue g.N.Naming.first s.began s.desk.work.store c.leave.new.self.work.store c.leave.ensures.kept.listing (s.starts kept)
+
+pub invariant_of-self-2-clause-starts : goal.invariant_of-self-2-clause-starts
+invariant_of-self-2-clause-starts g c kept =
+    let s = c.args.self.now in
+    starts_as g.N.Naming.catalogue g.N.Naming.first s.began s.desk.work.store c.leave.new.self.work.store c.leave.ensures.kept.listing (s.starts kept)
+
+pub invariant_of-self-2-clause-grows : goal.invariant_of-self-2-clause-grows
+invariant_of-self-2-clause-grows g c =
+    let s = c.args.self.now in
+    let left = (c.args.ticket, became.Left) ∷ [] in
+    let is : c.add.new.self ≡ s.front ++ left = c.add.ensures ∙ (c.in-Ok.ensures.left.1.history ∙ ap (λ (x : History). x ++ left) (sym s.shown)) in
+    grows_on s.began s.front c.add.new.self (left, is) s.grows

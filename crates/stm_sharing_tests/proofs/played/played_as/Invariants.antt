@@ -1,4 +1,4 @@
-use Rattle.stm_sharing_tests.proofs.played.played.Given as goal
+use Rattle.stm_sharing_tests.proofs.played.played_as.Given as goal
 
 -- the service is of this program and of the store's values, and shows its history in the book that was opened
 abbrev pub ghosts-played_by : goal.ghosts-played_by
