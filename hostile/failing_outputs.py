@@ -10,7 +10,6 @@ from refused_memory import INCREMENTS
 from trials import run, shown
 
 UNWRITTEN = (4, b"stm: cannot write\n")
-UNREAD = (4, b"stm: cannot read\n")
 LONG = (2, b"stm: file: F1 TooLong\n")
 
 # How the shell sends the outputs away.
@@ -63,17 +62,18 @@ def try_unread(expect, file):
     """Inputs that are no files, or have no end."""
     places = [("no file", "no-such-file"), ("a folder", "."), ("no name", ""), ("a name of 100,000 letters", "a" * 100000)]
     for what, path in places:
-        expect(f"run, {what}", ["run", path], UNREAD)
-        expect(f"check, {what}", ["check", file, path], UNREAD)
-        expect(f"world, {what}", ["world", file, path], UNREAD)
-        expect(f"explore, {what}", ["explore", path], UNREAD)
-        expect(f"explore --to, {what}", ["explore", path, "--to", "1"], UNREAD)
-        expect(f"explore --dot, {what}", ["explore", path, "--dot"], UNREAD)
-        expect(f"print, {what}", ["print", path], UNREAD)
-        expect(f"print --from, {what}", ["print", file, "--from", path], UNREAD)
-        expect(f"explain, {what}", ["explain", path], UNREAD)
-        expect(f"explain a report, {what}", ["explain", file, path], UNREAD)
-        expect(f"explain a schedule, {what}", ["explain", file, "--schedule", path], UNREAD)
+        unread = (4, f"stm: cannot read {path}\n".encode())
+        expect(f"run, {what}", ["run", path], unread)
+        expect(f"check, {what}", ["check", file, path], unread)
+        expect(f"world, {what}", ["world", file, path], unread)
+        expect(f"explore, {what}", ["explore", path], unread)
+        expect(f"explore --to, {what}", ["explore", path, "--to", "1"], unread)
+        expect(f"explore --dot, {what}", ["explore", path, "--dot"], unread)
+        expect(f"print, {what}", ["print", path], unread)
+        expect(f"print --from, {what}", ["print", file, "--from", path], unread)
+        expect(f"explain, {what}", ["explain", path], unread)
+        expect(f"explain a report, {what}", ["explain", file, path], unread)
+        expect(f"explain a schedule, {what}", ["explain", file, "--schedule", path], unread)
     expect("run, a file with no end", ["run", "/dev/zero"], LONG)
     expect("run, a file with no end, of any bytes", ["run", "/dev/urandom"], LONG)
     expect("world, a schedule with no end", ["world", file, "/dev/zero"], (2, b"stm: schedule: F1 TooLong\n"))

@@ -8,9 +8,9 @@ import re
 import shlex
 from collections import namedtuple
 
-# One row of a case. `files`: what lies in the folder that it is run in; `words`: the program's; `wanted`: what each
-# key that stands there asks for; `place`: where the case stands.
-Row = namedtuple("Row", "place title files words wanted")
+# One row of a case. `files`: what lies in the folder that it is run in; `made`: the files that commands print, which run
+# before; `words`: the program's; `wanted`: what each key that stands there asks for; `place`: where the case stands.
+Row = namedtuple("Row", "place title files made words wanted")
 # A run of lines that belong together: a key, what it names, the text on its line (None: the text stands below), the
 # lines below it, and the number of its line.
 Part = namedtuple("Part", "key name inline block line")
@@ -20,7 +20,7 @@ LINES = ("prints", "ends", "says")
 TEXTS = (*LINES, "begins", "has", "says first")
 WORDS = ("status", "length", "output", "prints as", "cut")
 ESCAPES = {"n": "\n", "t": "\t", "\\": "\\"}
-PLACEHOLDER = re.compile(r'\{([A-Z][A-Z0-9_]*)\}|\{(\d+|\{[A-Z][A-Z0-9_]*\}) times "([^"]*)"\}')
+PLACEHOLDER = re.compile(r'\{([A-Z][A-Z0-9_]*)\}|\{(\d+|\{[A-Z][A-Z0-9_]*\}) times (?:from (\d+) )?"([^"]*)"\}')
 
 
 class Misspelt(Exception):
@@ -48,11 +48,12 @@ def filled(text, known):
             if found[1] not in known:
                 raise Misspelt(f"nothing is named {found[1]}")
             return known[found[1]]
-        count = int(filled(found[2], known))
-        piece = filled(found[3], known)
+        count, first = int(filled(found[2], known)), int(found[3] or 0)
+        piece = filled(found[4], known)
         if "{i}" not in piece and "{n}" not in piece:
             return piece * count
-        return "".join(piece.replace("{i}", str(number)).replace("{n}", str(number + 1)) for number in range(count))
+        numbers = range(first, first + count)
+        return "".join(piece.replace("{i}", str(number)).replace("{n}", str(number + 1)) for number in numbers)
 
     return PLACEHOLDER.sub(one, text)
 
@@ -88,7 +89,7 @@ def part_of(line, number):
         return Part("stm", None, line[len("stm") :], [], number)
     head, colon, rest = line.partition(":")
     key, _, name = head.partition(" ")
-    if key not in ("file", "text", "each"):
+    if key not in ("file", "made", "text", "each"):
         key, name = head, None
     known = name.strip() if name else key in TEXTS or key in WORDS
     if not colon or not known:
@@ -182,6 +183,14 @@ def wanted_of(parts, known):
     return wanted
 
 
+def made_of(part, known):
+    """The words of the command that prints a file."""
+    text = text_of(part, known)
+    if not text.startswith("stm "):
+        raise Misspelt(f"{part.line}: a file is made by a command of stm")
+    return words_of(text, known)[1:]
+
+
 def cut(files, told, line):
     """Cuts one of the files behind so many bytes."""
     name, _, count = told.partition(" ")
@@ -204,12 +213,13 @@ def rows_of_case(place, head, parts, texts):
         for one in values:
             known.update(one)
         files = {part.name.strip(): bytes_of(text_of(part, known)) for part in parts if part.key == "file"}
+        made = {part.name.strip(): made_of(part, known) for part in parts if part.key == "made"}
         words = words_of(commands[0].inline, known)
         wanted = wanted_of(parts, known)
         if "cut" in wanted:
             cut(files, wanted.pop("cut"), head.line)
         told = ", ".join(f"{name}={cut_short(value)}" for one in values for name, value in one.items())
-        yield Row(f"{place}:{head.line}", head.name + (f" ({told})" if told else ""), files, words, wanted)
+        yield Row(f"{place}:{head.line}", head.name + (f" ({told})" if told else ""), files, made, words, wanted)
 
 
 def read(path):

@@ -17,6 +17,6 @@ pub few : (a : Answer) → exit_status a ≤ 5
 few Done = omega (arith)
 few Unlawful = omega (arith)
 few Refused = omega (arith)
-few Unreadable = omega (arith)
+few (Unreadable source) = omega (arith)
 few (Failed fault) = of_faults fault
 few (Earlier kind) = omega (arith)

@@ -8,7 +8,7 @@ abbrev pub IsNoCommand : Answer → Type 0
 IsNoCommand Done = Unit {0}
 IsNoCommand Unlawful = ⊥
 IsNoCommand Refused = Unit {0}
-IsNoCommand Unreadable = ⊥
+IsNoCommand (Unreadable source) = ⊥
 IsNoCommand (Failed (Input kind)) = ⊥
 IsNoCommand (Failed Memory) = Unit {0}
 IsNoCommand (Failed Output) = Unit {0}

@@ -10,7 +10,7 @@ abbrev pub exit_status : Answer → ℕ
 exit_status Done = 0
 exit_status Unlawful = 1
 exit_status Refused = 3
-exit_status Unreadable = 4
+exit_status (Unreadable source) = 4
 exit_status (Failed fault) = status_of fault
 exit_status (Earlier kind) = 2
 

@@ -6,6 +6,21 @@ ghost use Rattle.command_line.specs.Statuses.{earlier_line, exit_status};
 use run_interface::RunFault;
 use text_words::ReadFault;
 
+/// Which of the files that the command line names is meant.
+#[derive(Clone, Copy, PartialEq, Eq)]
+pub enum Source {
+    /// The file whose tasks are run, judged, printed or explained.
+    File,
+    /// A report of it.
+    Report,
+    /// A schedule of it.
+    Schedule,
+    /// The earlier file, behind which a chapter is to go on.
+    EarlierFile,
+    /// The report of the earlier file.
+    EarlierReport,
+}
+
 /// What came of the command line.
 #[derive(Clone, Copy, PartialEq, Eq)]
 pub enum Answer {
@@ -18,8 +33,8 @@ pub enum Answer {
     Unlawful,
     /// The command line is refused, and it was said why.
     Refused,
-    /// The file cannot be read.
-    Unreadable,
+    /// This file cannot be opened or read.
+    Unreadable(Source),
     /// There is no report and no text of a world, or help that was asked for could not be printed.
     Failed(RunFault),
     /// The earlier file, behind which a chapter is to go on, spells no file, by a fault of this kind,
@@ -37,21 +52,20 @@ pub fn status(answer: Answer) -> u8
         Answer::Done => 0,
         Answer::Unlawful => 1,
         Answer::Refused => 3,
-        Answer::Unreadable => 4,
+        Answer::Unreadable(_) => 4,
         Answer::Failed(fault) => fault.status(),
         Answer::Earlier(_) => 2,
     }
 }
 
 /// Says on the standard error why there is no report, where that was not said yet, and tells the
-/// status.
+/// status. Which file cannot be read is said by `tell_unread`.
 pub fn told<R: Eprint>(rt: &R, answer: Answer) -> u8
     ensures { result ≡ exit_status answer }
 {
     // The status says it too, where the standard error does not take the words.
     let _unheard = match answer {
-        Answer::Done | Answer::Unlawful | Answer::Refused => Ok(()),
-        Answer::Unreadable => rt.eprintln("stm: cannot read"),
+        Answer::Done | Answer::Unlawful | Answer::Refused | Answer::Unreadable(_) => Ok(()),
         Answer::Failed(fault) => rt.eprintln(fault.line()),
         Answer::Earlier(kind) => rt.eprintln(earlier_line(kind)),
     };

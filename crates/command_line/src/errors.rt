@@ -3,18 +3,18 @@
 ghost use Rattle.std.specs.IoError.{error_kind};
 ghost use Rattle.command_line.specs.Errors.{Unread, Wordless};
 
-use crate::answer::Answer;
+use crate::answer::{Answer, Source};
 use run_interface::RunFault;
 use std::io;
 
-/// Why a file was not read: it cannot be, or there is no memory to read it into.
-pub fn unread(error: &io::Error) -> Answer
-    ensures { Unread (error_kind error.now) result }
+/// Why this file was not read: it cannot be, or there is no memory to read it into.
+pub fn unread(error: &io::Error, source: Source) -> Answer
+    ensures { Unread source (error_kind error.now) result }
 {
     if error.kind() == io::ErrorKind::OutOfMemory {
         return Answer::Failed(RunFault::Memory);
     }
-    Answer::Unreadable
+    Answer::Unreadable(source)
 }
 
 /// Says why there are no words.

@@ -1,6 +1,7 @@
 -- What is left where a file is read first.
 use Rattle.std.proofs.Common.{◌≡◌, inl, inr, ℕ, List, Option, None, Some, refl, sym, ap, subst}
 use Rattle.std.specs.Io.KnownBytes.{Keeps}
+use Rattle.command_line.specs.declared.answer.Source.{Source}
 use Rattle.command_line.specs.declared.answer.Answer.{Answer}
 use Rattle.commands.specs.Files.{IsRead, IsReportOf, IsUnread, failed_calls}
 
@@ -22,6 +23,6 @@ pub any_report : (file : List ℕ) (known : Option (List ℕ)) (bytes : List ℕ
 any_report file known bytes is = (is.0, is.1, tt)
 
 -- where nothing was read no call of a sink failed
-pub unread_calls : (a : Answer) → IsUnread a → failed_calls a ≡ 0
-unread_calls a (inl e) = ap failed_calls e
-unread_calls a (inr e) = ap failed_calls e
+pub unread_calls : (s : Source) (a : Answer) → IsUnread s a → failed_calls a ≡ 0
+unread_calls s a (inl e) = ap failed_calls e
+unread_calls s a (inr e) = ap failed_calls e

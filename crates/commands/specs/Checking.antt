@@ -39,7 +39,7 @@ abbrev pub Tells : Answer → List ℕ → Option (List ℕ) → Option (List �
 Tells of_it line old new Done = (of_it ≡ Done) × Appends old new line
 Tells of_it line old new Unlawful = (of_it ≡ Unlawful) × Appends old new line
 Tells of_it line old new Refused = ⊥
-Tells of_it line old new Unreadable = ⊥
+Tells of_it line old new (Unreadable source) = ⊥
 Tells of_it line old new (Failed (Input kind)) = ⊥
 Tells of_it line old new (Failed Memory) = ⊥
 Tells of_it line old new (Failed Output) = (n : ℕ) × Appends old new (take n line)
@@ -58,7 +58,7 @@ abbrev pub Checked : List ℕ → List ℕ → Option (List ℕ) → Option (Lis
 Checked file report old new Done = ToldVerdict file report old new Done
 Checked file report old new Unlawful = ToldVerdict file report old new Unlawful
 Checked file report old new Refused = ⊥
-Checked file report old new Unreadable = ⊥
+Checked file report old new (Unreadable source) = ⊥
 -- the file is refused, and nothing is written
 Checked file report old new (Failed (Input kind)) = IsFirst file kind × Keeps old new
 Checked file report old new (Failed Memory) = Keeps old new
@@ -81,7 +81,7 @@ abbrev pub CheckedAfter : List ℕ → List ℕ → List ℕ → List ℕ → Op
 CheckedAfter file report earlier earlier_report old new Done = ToldChapter file report earlier earlier_report old new Done
 CheckedAfter file report earlier earlier_report old new Unlawful = ToldChapter file report earlier earlier_report old new Unlawful
 CheckedAfter file report earlier earlier_report old new Refused = ⊥
-CheckedAfter file report earlier earlier_report old new Unreadable = ⊥
+CheckedAfter file report earlier earlier_report old new (Unreadable source) = ⊥
 -- one of the files is refused, and nothing is written
 CheckedAfter file report earlier earlier_report old new (Failed (Input kind)) = IsFirst file kind × Keeps old new
 CheckedAfter file report earlier earlier_report old new (Failed Memory) = Keeps old new

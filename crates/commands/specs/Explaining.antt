@@ -32,7 +32,7 @@ abbrev pub ExplainedBytes : List ℕ → Option (List ℕ) → Option (List ℕ)
 ExplainedBytes input old new Done = Telling input old new (told file.Good)
 ExplainedBytes input old new Unlawful = ⊥
 ExplainedBytes input old new Refused = ⊥
-ExplainedBytes input old new Unreadable = ⊥
+ExplainedBytes input old new (Unreadable source) = ⊥
 -- where and why it is refused was written
 ExplainedBytes input old new (Failed (Input kind)) = Telling input old new (told (file.Refused kind))
 ExplainedBytes input old new (Failed Memory) = Telling input old new (untold Memory)
@@ -45,7 +45,7 @@ abbrev pub ExplainedOnBytes : List ℕ → List ℕ → Option (List ℕ) → Op
 ExplainedOnBytes input report old new Done = Written input report old new (Ok Good)
 ExplainedOnBytes input report old new Unlawful = (part : Part) × Written input report old new (Ok (Bad part))
 ExplainedOnBytes input report old new Refused = ⊥
-ExplainedOnBytes input report old new Unreadable = ⊥
+ExplainedOnBytes input report old new (Unreadable source) = ⊥
 ExplainedOnBytes input report old new (Failed fault) = Written input report old new (Err fault)
 ExplainedOnBytes input report old new (Earlier kind) = ⊥
 
@@ -59,7 +59,7 @@ abbrev pub ExplainedAfter : List ℕ → List ℕ → List ℕ → List ℕ → 
 ExplainedAfter file report earlier earlier_report old new Done = ExplainedVerdict file report earlier earlier_report old new Done
 ExplainedAfter file report earlier earlier_report old new Unlawful = ExplainedVerdict file report earlier earlier_report old new Unlawful
 ExplainedAfter file report earlier earlier_report old new Refused = ⊥
-ExplainedAfter file report earlier earlier_report old new Unreadable = ⊥
+ExplainedAfter file report earlier earlier_report old new (Unreadable source) = ⊥
 ExplainedAfter file report earlier earlier_report old new (Failed (Input kind)) = ChapterWritten file report earlier earlier_report old new (Err (untold_by.Unjudged (fault.File kind)))
 ExplainedAfter file report earlier earlier_report old new (Failed Memory) = ChapterWritten file report earlier earlier_report old new (Err (untold_by.Unjudged fault.Memory))
 ExplainedAfter file report earlier earlier_report old new (Failed Output) = ChapterWritten file report earlier earlier_report old new (Err untold_by.Output)
@@ -71,7 +71,7 @@ abbrev pub ExplainedMoves : List ℕ → List ℕ → Option (List ℕ) → Opti
 ExplainedMoves input schedule old new Done = schedules.Telling input schedule old new (told file.Good)
 ExplainedMoves input schedule old new Unlawful = ⊥
 ExplainedMoves input schedule old new Refused = ⊥
-ExplainedMoves input schedule old new Unreadable = ⊥
+ExplainedMoves input schedule old new (Unreadable source) = ⊥
 -- the file is refused, and nothing was written
 ExplainedMoves input schedule old new (Failed (Input kind)) = schedules.Telling input schedule old new (untold (Input kind))
 ExplainedMoves input schedule old new (Failed Memory) = schedules.Telling input schedule old new (untold Memory)

@@ -27,7 +27,7 @@ ExploredBytes limit ds file old new Done = Judges file limit ds old new (seen ju
 -- more states are reached, or some order comes to what is denied
 ExploredBytes limit ds file old new Unlawful = Judges file limit ds old new (seen judged.More) ⊎ ((line : String Global) × Judges file limit ds old new (seen (judged.Denied line)))
 ExploredBytes limit ds file old new Refused = ⊥
-ExploredBytes limit ds file old new Unreadable = ⊥
+ExploredBytes limit ds file old new (Unreadable source) = ⊥
 ExploredBytes limit ds file old new (Failed fault) = Judges file limit ds old new (unseen fault)
 ExploredBytes limit ds file old new (Earlier kind) = ⊥
 
@@ -48,7 +48,7 @@ WitnessedBytes limit end file old new Done = Answered file limit end old new (an
 WitnessedBytes limit end file old new Unlawful = Answered file limit end old new (answered Beyond)
 -- there is no end of that number
 WitnessedBytes limit end file old new Refused = Answered file limit end old new (answered NoEnd)
-WitnessedBytes limit end file old new Unreadable = ⊥
+WitnessedBytes limit end file old new (Unreadable source) = ⊥
 WitnessedBytes limit end file old new (Failed fault) = Answered file limit end old new (unanswered fault)
 WitnessedBytes limit end file old new (Earlier kind) = ⊥
 

@@ -10,6 +10,8 @@ use Rattle.run_interface.specs.Failures.{output_failures}
 use Rattle.runner.specs.Running.{Ran}
 use Rattle.run_interface.specs.declared.fault.RunFault.{RunFault}
 use Rattle.run_interface.specs.declared.fault.RunFault.TheVariants.{Memory}
+use Rattle.command_line.specs.declared.answer.Source.{Source}
+use Rattle.command_line.specs.declared.answer.Source.TheVariants as source
 use Rattle.command_line.specs.declared.answer.Answer.{Answer}
 use Rattle.command_line.specs.declared.answer.Answer.TheVariants.{Done, Unlawful, Refused, Unreadable, Failed, Earlier}
 
@@ -46,27 +48,36 @@ OfRead limit known Left = (bytes : List ℕ) × IsRead limit known bytes × Left
 abbrev pub OfReport : List ℕ → Option (List ℕ) → (List ℕ → Type 0) → Type 0
 OfReport file known Left = (bytes : List ℕ) × IsReportOf file known bytes × Left bytes
 
--- what is answered where a reader fails, or there is no memory for what it has
-abbrev pub IsUnread : Answer → Type 0
-IsUnread a = (a ≡ Unreadable) ⊎ (a ≡ Failed Memory)
+-- what is answered where the reader of this file fails, or there is no memory for what it has
+abbrev pub IsUnread : Source → Answer → Type 0
+IsUnread s a = (a ≡ Unreadable s) ⊎ (a ≡ Failed Memory)
+
+-- the same of the reader of one of two
+abbrev pub IsOneUnread : Source → Source → Answer → Type 0
+IsOneUnread s t a = IsUnread s a ⊎ IsUnread t a
+
+-- the same of one of the four of a chapter
+abbrev pub IsChapterUnread : Answer → Type 0
+IsChapterUnread a = IsOneUnread source.File source.Report a ⊎ IsOneUnread source.EarlierFile source.EarlierReport a
 
 -- it could not be read, and nothing was written; or it was, and this is so of what was read
 abbrev pub AfterReading : (List ℕ → ℕ) → Option (List ℕ) → (List ℕ → Type 0) → Option (List ℕ) → Option (List ℕ) → Answer → Type 0
-AfterReading limit known Left old new a = (IsUnread a × Keeps old new) ⊎ OfRead limit known Left
+AfterReading limit known Left old new a = (IsUnread source.File a × Keeps old new) ⊎ OfRead limit known Left
 
 -- the same of a file, and of a schedule of it
 abbrev pub AfterReadingSchedule : Option (List ℕ) → Option (List ℕ) → (List ℕ → List ℕ → Type 0) → Option (List ℕ) → Option (List ℕ) → Answer → Type 0
 AfterReadingSchedule file schedule Left old new a =
-    (IsUnread a × Keeps old new) ⊎ OfRead file_limit file (λ f. OfRead schedule_limit schedule (Left f))
+    (IsOneUnread source.File source.Schedule a × Keeps old new) ⊎ OfRead file_limit file (λ f. OfRead schedule_limit schedule (Left f))
 
 -- the same of a file, and of a report of it
 abbrev pub AfterReadingReport : Option (List ℕ) → Option (List ℕ) → (List ℕ → List ℕ → Type 0) → Option (List ℕ) → Option (List ℕ) → Answer → Type 0
-AfterReadingReport file report Left old new a = (IsUnread a × Keeps old new) ⊎ OfRead file_limit file (λ f. OfReport f report (Left f))
+AfterReadingReport file report Left old new a =
+    (IsOneUnread source.File source.Report a × Keeps old new) ⊎ OfRead file_limit file (λ f. OfReport f report (Left f))
 
 -- the same of a file and a report, and of an earlier file and a report of it
 abbrev pub AfterReadingChapter : Option (List ℕ) → Option (List ℕ) → Option (List ℕ) → Option (List ℕ) → (List ℕ → List ℕ → List ℕ → List ℕ → Type 0) → Option (List ℕ) → Option (List ℕ) → Answer → Type 0
 AfterReadingChapter file report earlier earlier_report Left old new a =
-    (IsUnread a × Keeps old new)
+    (IsChapterUnread a × Keeps old new)
     ⊎ OfRead file_limit file (λ f. OfReport f report (λ r. OfRead file_limit earlier (λ e. OfReport e earlier_report (Left f r e))))
 
 -- the answers of a run of bytes
@@ -77,23 +88,23 @@ abbrev pub ended : RunFault → Result (Unit {0}) RunFault
 ended fault = Err fault
 
 -- by the answer: what a run of these bytes leaves that ends so
-abbrev pub RanBytes : ℕ → List ℕ → Option (List ℕ) → Option (List ℕ) → Answer → Type 0
-RanBytes every input old new Done = Ran every input old new done
-RanBytes every input old new Unlawful = ⊥
-RanBytes every input old new Refused = ⊥
-RanBytes every input old new Unreadable = ⊥
-RanBytes every input old new (Failed fault) = Ran every input old new (ended fault)
-RanBytes every input old new (Earlier kind) = ⊥
+abbrev pub RanBytes : ℕ → Option ℕ → List ℕ → Option (List ℕ) → Option (List ℕ) → Answer → Type 0
+RanBytes every seed input old new Done = Ran every seed input old new done
+RanBytes every seed input old new Unlawful = ⊥
+RanBytes every seed input old new Refused = ⊥
+RanBytes every seed input old new (Unreadable source) = ⊥
+RanBytes every seed input old new (Failed fault) = Ran every seed input old new (ended fault)
+RanBytes every seed input old new (Earlier kind) = ⊥
 
 -- what a run of a file leaves, of which it is known that it has these bytes, if anything is
-abbrev pub RanFile : Option (List ℕ) → ℕ → Option (List ℕ) → Option (List ℕ) → Answer → Type 0
-RanFile known every old new a = AfterReading file_limit known (λ input. RanBytes every input old new a) old new a
+abbrev pub RanFile : Option (List ℕ) → ℕ → Option ℕ → Option (List ℕ) → Option (List ℕ) → Answer → Type 0
+RanFile known every seed old new a = AfterReading file_limit known (λ input. RanBytes every seed input old new a) old new a
 
 -- how many calls of the sink failed
 abbrev pub failed_calls : Answer → ℕ
 failed_calls Done = 0
 failed_calls Unlawful = 0
 failed_calls Refused = 0
-failed_calls Unreadable = 0
+failed_calls (Unreadable source) = 0
 failed_calls (Failed fault) = output_failures (ended fault)
 failed_calls (Earlier kind) = 0

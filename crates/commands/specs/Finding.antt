@@ -25,7 +25,7 @@ FoundBytes limit name o file old new Done = Finds file limit name o old new (sig
 FoundBytes limit name o file old new Unlawful = Finds file limit name o old new (sighted Never) ⊎ Finds file limit name o old new (sighted Beyond)
 -- the file has no transaction or no condition of that name
 FoundBytes limit name o file old new Refused = Finds file limit name o old new (sighted NoTransaction) ⊎ Finds file limit name o old new (sighted NoCondition)
-FoundBytes limit name o file old new Unreadable = ⊥
+FoundBytes limit name o file old new (Unreadable source) = ⊥
 FoundBytes limit name o file old new (Failed fault) = Finds file limit name o old new (unsighted fault)
 FoundBytes limit name o file old new (Earlier kind) = ⊥
 

@@ -20,7 +20,7 @@ abbrev pub DrawnBytes : ℕ → List ℕ → Option (List ℕ) → Option (List 
 DrawnBytes limit file old new Done = Drew file (most_nodes limit) old new (drawn Whole)
 DrawnBytes limit file old new Unlawful = Drew file (most_nodes limit) old new (drawn More)
 DrawnBytes limit file old new Refused = ⊥
-DrawnBytes limit file old new Unreadable = ⊥
+DrawnBytes limit file old new (Unreadable source) = ⊥
 DrawnBytes limit file old new (Failed fault) = Drew file (most_nodes limit) old new (undrawn fault)
 DrawnBytes limit file old new (Earlier kind) = ⊥
 

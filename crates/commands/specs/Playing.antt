@@ -10,7 +10,7 @@ abbrev pub Played : List ℕ → List ℕ → Option (List ℕ) → Option (List
 Played file schedule old new Done = Showed file schedule old new done
 Played file schedule old new Unlawful = ⊥
 Played file schedule old new Refused = ⊥
-Played file schedule old new Unreadable = ⊥
+Played file schedule old new (Unreadable source) = ⊥
 Played file schedule old new (Failed fault) = Showed file schedule old new (ended fault)
 Played file schedule old new (Earlier kind) = ⊥
 

@@ -16,7 +16,7 @@ abbrev pub PrintedBytes : List ℕ → Option (List ℕ) → Option (List ℕ) �
 PrintedBytes input old new Done = Printed input old new done
 PrintedBytes input old new Unlawful = ⊥
 PrintedBytes input old new Refused = ⊥
-PrintedBytes input old new Unreadable = ⊥
+PrintedBytes input old new (Unreadable source) = ⊥
 PrintedBytes input old new (Failed fault) = Printed input old new (ended fault)
 PrintedBytes input old new (Earlier kind) = ⊥
 
@@ -25,7 +25,7 @@ abbrev pub PrintedOnBytes : Next → List ℕ → List ℕ → Option (List ℕ)
 PrintedOnBytes next input report old new Done = PrintedOn next input report old new (Ok Good)
 PrintedOnBytes next input report old new Unlawful = (part : Part) × PrintedOn next input report old new (Ok (Bad part))
 PrintedOnBytes next input report old new Refused = ⊥
-PrintedOnBytes next input report old new Unreadable = ⊥
+PrintedOnBytes next input report old new (Unreadable source) = ⊥
 PrintedOnBytes next input report old new (Failed fault) = PrintedOn next input report old new (Err fault)
 PrintedOnBytes next input report old new (Earlier kind) = ⊥
 

@@ -9,7 +9,7 @@ ghost use Rattle.commands.specs.Checking.{Tells, Checked, CheckedAs, CheckedFile
 use crate::chapters::check_chapter;
 use crate::reading::{both_opened, with_report};
 use checker::{Verdict, check};
-use command_line::{Answer, Check};
+use command_line::{Answer, Check, Source};
 use run_interface::{RunFault, Sink, put_all};
 use std::alloc::Global;
 use std::io::Read;
@@ -49,7 +49,7 @@ pub fn check_files<R: Files + AllocGlobal, S: Sink>(
     ensures bad { result ≡ Answer.Unlawful → S.flushed sink.new ≡ true }
     ensures failures { S.failed sink.new ≡ S.failed sink.old + failed_calls result }
 {
-    match both_opened(rt, file, report) {
+    match both_opened(rt, file, report, Source::Report) {
         Ok((file, report)) => check_inputs(rt.alloc(), file, report, sink),
         Err(answer) => answer,
     }

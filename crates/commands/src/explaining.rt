@@ -10,7 +10,7 @@ ghost use Rattle.commands.specs.Explaining.{ExplainedOnBytes, ExplainedOnFiles, 
 use crate::chapters::explain_chapter_at;
 use crate::checking::answer_of;
 use crate::reading::{both_opened, file_bytes_of, opened, with_report, with_schedule};
-use command_line::{Answer, Explain, Explained};
+use command_line::{Answer, Explain, Explained, Source};
 use explain_files::{Judgement, explain_bytes};
 use run_interface::{RunFault, Sink};
 use std::alloc::Global;
@@ -94,7 +94,7 @@ fn explain_report_at<R: Files + AllocGlobal, S: Sink>(
     ensures bad { result ≡ Answer.Unlawful → S.flushed sink.new ≡ true }
     ensures failures { S.failed sink.new ≡ S.failed sink.old + failed_calls result }
 {
-    match both_opened(rt, file, report) {
+    match both_opened(rt, file, report, Source::Report) {
         Ok((file, report)) => explain_on_inputs(rt.alloc(), file, report, sink),
         Err(answer) => answer,
     }
@@ -148,7 +148,7 @@ fn explain_schedule_at<R: Files + AllocGlobal, S: Sink>(
     ensures flushed { result ≡ Answer.Done → S.flushed sink.new ≡ true }
     ensures failures { S.failed sink.new ≡ S.failed sink.old + failed_calls result }
 {
-    match both_opened(rt, file, schedule) {
+    match both_opened(rt, file, schedule, Source::Schedule) {
         Ok((file, schedule)) => explain_schedule_inputs(rt.alloc(), file, schedule, sink),
         Err(answer) => answer,
     }

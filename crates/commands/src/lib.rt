@@ -25,4 +25,4 @@ pub mod program;
 pub mod reading;
 pub mod running;
 
-pub use program::{run, run_by};
+pub use program::{answer_to, run, run_by};

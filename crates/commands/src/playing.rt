@@ -6,7 +6,7 @@ ghost use Rattle.commands.specs.Files.{failed_calls};
 ghost use Rattle.commands.specs.Playing.{Played, PlayedFiles};
 
 use crate::reading::{both_opened, with_schedule};
-use command_line::Answer;
+use command_line::{Answer, Source};
 use run_interface::Sink;
 use std::alloc::Global;
 use std::io::Read;
@@ -27,7 +27,7 @@ pub fn play_files<R: Files + AllocGlobal, S: Sink>(
     ensures flushed { result ≡ Answer.Done → S.flushed sink.new ≡ true }
     ensures failures { S.failed sink.new ≡ S.failed sink.old + failed_calls result }
 {
-    match both_opened(rt, file, schedule) {
+    match both_opened(rt, file, schedule, Source::Schedule) {
         Ok((file, schedule)) => play_inputs(rt.alloc(), file, schedule, sink),
         Err(answer) => answer,
     }

@@ -8,7 +8,7 @@ ghost use Rattle.commands.specs.Printing.{PrintedAs, PrintedBytes, PrintedFile, 
 
 use crate::checking::answer_of;
 use crate::reading::{both_opened, file_bytes_of, opened, with_report};
-use command_line::{Answer, Print, Printed};
+use command_line::{Answer, Print, Printed, Source};
 use file_chains::{Next, print_bytes, print_on_bytes};
 use run_interface::Sink;
 use std::alloc::Global;
@@ -88,7 +88,7 @@ pub fn print_on_files<R: Files + AllocGlobal, S: Sink>(
     ensures bad { result ≡ Answer.Unlawful → S.flushed sink.new ≡ true }
     ensures failures { S.failed sink.new ≡ S.failed sink.old + failed_calls result }
 {
-    match both_opened(rt, file, report) {
+    match both_opened(rt, file, report, Source::Report) {
         Ok((file, report)) => print_on_inputs(rt.alloc(), file, report, next, sink),
         Err(answer) => answer,
     }

@@ -1,7 +1,9 @@
 //! The program: words and files in, a report and a status out.
 
-ghost use Rattle.std.specs.Prelude.{◌≤◌};
+ghost use Rattle.std.specs.Prelude.{◌≡◌, ◌≤◌, ◌+◌, true};
 ghost use Rattle.run_interface.specs.Counts.{FewFailed};
+ghost use Rattle.commands.specs.Files.{failed_calls};
+ghost use Rattle.commands.specs.Program.{Did, SawOrders};
 
 use crate::checking::check_as;
 use crate::explaining::explain_as;
@@ -11,7 +13,7 @@ use crate::graphing::graph_file;
 use crate::playing::play_files;
 use crate::printing::print_as;
 use crate::running::run_file;
-use command_line::{Answer, Orders, Request, asked, told, words_given};
+use command_line::{Answer, Orders, Request, asked, tell_unread, told, words_given};
 use run_interface::{Out, Sink};
 use runner::{Gate, OpenGate};
 use std::io;
@@ -19,8 +21,9 @@ use std::rt::{Env, Files};
 use std::sync::Wait;
 use std::thread::Threads;
 
-/// Does what the command line asks for, and tells the status to end with, as `told` has it. Threads come from the
-/// first runtime, and all else from the second.
+/// Does what the command line asks for, and tells the status to end with: `status` of what `answer_to` answers to the
+/// request that the words make, or of why they make none. Threads come from the first runtime, and all else from the
+/// second.
 pub fn run<T: Threads + Wait + Sync, R: Files + Env + Print + Eprint + AllocGlobal>(
     threads: &T,
     rt: &R,
@@ -57,8 +60,8 @@ fn answer<T: Threads + Wait + Sync, R: Files + Env + Print + Eprint + AllocGloba
     }
 }
 
-/// Does what was asked for. What it prints goes to the standard output as it is, each put of the sink
-/// by one write.
+/// Does what was asked for, and says which file could not be read. What it prints goes to the standard output as it is,
+/// each put of the sink by one write.
 fn answered<T: Threads + Wait + Sync, R: Files + Print + Eprint + AllocGlobal, G: Gate>(
     threads: &T,
     rt: &R,
@@ -66,13 +69,32 @@ fn answered<T: Threads + Wait + Sync, R: Files + Print + Eprint + AllocGlobal, G
     gate: &G,
 ) -> Answer {
     let mut out = Out::new(io::writer(rt));
+    let answer = answer_to(threads, rt, request, gate, &mut out);
+    tell_unread(rt, request, answer);
+    answer
+}
+
+/// Does what was asked for, and writes what comes of it to the sink. No clause knows what the files at the paths of the
+/// request have.
+pub fn answer_to<T: Threads + Wait + Sync, R: Files + Eprint + AllocGlobal, G: Gate, S: Sink>(
+    threads: &T,
+    rt: &R,
+    request: &Request<'_>,
+    gate: &G,
+    sink: &mut S,
+) -> Answer
+    requires { FewFailed (S.failed sink.old) }
+    ensures did { Did request.now (S.bytes sink.old) (S.bytes sink.new) result }
+    ensures flushed { result ≡ Answer.Done → S.flushed sink.new ≡ true }
+    ensures failures { S.failed sink.new ≡ S.failed sink.old + failed_calls result }
+{
     match request {
-        Request::Run(run) => run_file(threads, rt, run.file, run.options, gate, &mut out),
-        Request::Check(check) => check_as(rt, check, &mut out),
-        Request::World(played) => play_files(rt, played.file, played.schedule, &mut out),
-        Request::Print(print) => print_as(rt, print, &mut out),
-        Request::Explore(orders) => orders_of(rt, orders, &mut out),
-        Request::Explain(explain) => explain_as(rt, explain, &mut out),
+        Request::Run(run) => run_file(threads, rt, run.file, run.options, gate, sink),
+        Request::Check(check) => check_as(rt, check, sink),
+        Request::World(played) => play_files(rt, played.file, played.schedule, sink),
+        Request::Print(print) => print_as(rt, print, sink),
+        Request::Explore(orders) => orders_of(rt, orders, sink),
+        Request::Explain(explain) => explain_as(rt, explain, sink),
     }
 }
 
@@ -84,6 +106,10 @@ fn orders_of<R: Files + Eprint + AllocGlobal, S: Sink>(
     sink: &mut S,
 ) -> Answer
     requires { FewFailed (S.failed sink.old) }
+    ensures saw { SawOrders orders.now orders.now.graph orders.now.to orders.now.find
+        (S.bytes sink.old) (S.bytes sink.new) result }
+    ensures flushed { result ≡ Answer.Done → S.flushed sink.new ≡ true }
+    ensures failures { S.failed sink.new ≡ S.failed sink.old + failed_calls result }
 {
     if orders.graph {
         return graph_file(rt, orders.file, orders.limit, sink);

@@ -2,9 +2,10 @@
 
 ghost use Rattle.std.specs.Prelude.{◌≡◌, ◌<◌, ◌≤◌, ◌+◌, ◌^◌, ◌++◌, ℕ, IfOk, IfErr, List, length};
 ghost use Rattle.commands.specs.ToLimit.{most_next, count_left, left_of};
-ghost use Rattle.commands.specs.Files.{IsRead, IsReportLimit, IsReportOf, IsUnread, file_limit, schedule_limit};
+ghost use Rattle.commands.specs.Files.{IsChapterUnread, IsOneUnread, IsRead, IsReportLimit, IsReportOf, IsUnread};
+ghost use Rattle.commands.specs.Files.{file_limit, schedule_limit};
 
-use command_line::{Answer, Earlier, unread};
+use command_line::{Answer, Earlier, Source, unread};
 use run_interface::{RunFault, catalogue_of};
 use std::alloc::Global;
 use std::io::Read;
@@ -94,27 +95,36 @@ pub fn read_file_up_to<I: Read + Drop>(alloc: Global, input: I) -> io::Result<Ve
 /// The same, with what is answered where it cannot be read.
 pub(crate) fn file_bytes_of<I: Read + Drop>(alloc: Global, input: I) -> Result<Vec<u8>, Answer>
     ensures read { IfOk result (λ bytes. IsRead file_limit (I.remaining input) bytes.items) }
-    ensures unread { IfErr result IsUnread }
+    ensures unread { IfErr result (IsUnread Source.File) }
+{
+    bytes_of_file(alloc, input, Source::File)
+}
+
+/// The same of the present file or the earlier one.
+fn bytes_of_file<I: Read + Drop>(alloc: Global, input: I, source: Source) -> Result<Vec<u8>, Answer>
+    ensures read { IfOk result (λ bytes. IsRead file_limit (I.remaining input) bytes.items) }
+    ensures unread { IfErr result (IsUnread source) }
 {
     match read_file_up_to(alloc, input) {
         Ok(bytes) => Ok(bytes),
-        Err(error) => Err(unread(&error)),
+        Err(error) => Err(unread(&error, source)),
     }
 }
 
 /// What another reader has left, with what is answered where it cannot be read.
-pub(crate) fn bytes_of<I: Read + Drop>(
+fn bytes_of<I: Read + Drop>(
     alloc: Global,
     input: I,
     limit: usize,
+    source: Source,
 ) -> Result<Vec<u8>, Answer>
     requires { limit < 2 ^ 32 }
     ensures read { IfOk result (λ bytes. IsRead (λ all. limit) (I.remaining input) bytes.items) }
-    ensures unread { IfErr result IsUnread }
+    ensures unread { IfErr result (IsUnread source) }
 {
     match read_up_to(alloc, input, limit) {
         Ok(bytes) => Ok(bytes),
-        Err(error) => Err(unread(&error)),
+        Err(error) => Err(unread(&error, source)),
     }
 }
 
@@ -126,10 +136,10 @@ pub(crate) fn with_schedule<I: Read + Drop, J: Read + Drop>(
 ) -> Result<(Vec<u8>, Vec<u8>), Answer>
     ensures first { IfOk result (λ both. IsRead file_limit (I.remaining file) both.0.items) }
     ensures second { IfOk result (λ both. IsRead schedule_limit (J.remaining schedule) both.1.items) }
-    ensures unread { IfErr result IsUnread }
+    ensures unread { IfErr result (IsOneUnread Source.File Source.Schedule) }
 {
     let file = file_bytes_of(alloc, file)?;
-    let schedule = bytes_of(alloc, schedule, MAX_SCHEDULE)?;
+    let schedule = bytes_of(alloc, schedule, MAX_SCHEDULE, Source::Schedule)?;
     Ok((file, schedule))
 }
 
@@ -138,7 +148,7 @@ pub(crate) fn with_schedule<I: Read + Drop, J: Read + Drop>(
 fn report_limit(alloc: Global, file: &[u8]) -> Result<usize, Answer>
     ensures limit { IfOk result (IsReportLimit file.now) }
     ensures small { IfOk result (λ limit. limit < 2 ^ 32) }
-    ensures unread { IfErr result IsUnread }
+    ensures memory { IfErr result (λ a. a ≡ Answer.Failed RunFault.Memory) }
 {
     if !announces_tables(file) {
         faults_where_none_is_spelled();
@@ -162,35 +172,66 @@ pub(crate) fn with_report<I: Read + Drop, J: Read + Drop>(
 ) -> Result<(Vec<u8>, Vec<u8>), Answer>
     ensures first { IfOk result (λ both. IsRead file_limit (I.remaining file) both.0.items) }
     ensures second { IfOk result (λ both. IsReportOf both.0.items (J.remaining report) both.1.items) }
-    ensures unread { IfErr result IsUnread }
+    ensures unread { IfErr result (IsOneUnread Source.File Source.Report) }
 {
-    let file = file_bytes_of(alloc, file)?;
+    pair_of(alloc, file, report, (Source::File, Source::Report))
+}
+
+/// The same of the present pair or the earlier one.
+fn pair_of<I: Read + Drop, J: Read + Drop>(
+    alloc: Global,
+    file: I,
+    report: J,
+    sources: (Source, Source),
+) -> Result<(Vec<u8>, Vec<u8>), Answer>
+    ensures first { IfOk result (λ both. IsRead file_limit (I.remaining file) both.0.items) }
+    ensures second { IfOk result (λ both. IsReportOf both.0.items (J.remaining report) both.1.items) }
+    ensures unread { IfErr result (IsOneUnread sources.0 sources.1) }
+{
+    let file = bytes_of_file(alloc, file, sources.0)?;
     let limit = report_limit(alloc, &file)?;
-    let report = bytes_of(alloc, report, limit)?;
+    let report = bytes_of(alloc, report, limit, sources.1)?;
     Ok((file, report))
 }
 
 /// The file at the path, to be read, or what is answered where it cannot be.
 pub(crate) fn opened<R: Files>(rt: &R, path: &str) -> Result<R::File, Answer>
-    ensures { IfErr result IsUnread }
+    ensures { IfErr result (IsUnread Source.File) }
+{
+    opened_as(rt, path, Source::File)
+}
+
+/// The same of whichever file it is.
+fn opened_as<R: Files>(rt: &R, path: &str, source: Source) -> Result<R::File, Answer>
+    ensures { IfErr result (IsUnread source) }
 {
     match fs::open(rt, path) {
         Ok(file) => Ok(file),
-        Err(error) => Err(unread(&error)),
+        Err(error) => Err(unread(&error, source)),
     }
 }
 
-/// The files at both paths.
+/// A file at a path, and a report or a schedule of it at another.
 pub(crate) fn both_opened<R: Files>(
     rt: &R,
     file: &str,
     other: &str,
+    other_source: Source,
 ) -> Result<(R::File, R::File), Answer>
-    ensures { IfErr result IsUnread }
+    ensures { IfErr result (IsOneUnread Source.File other_source) }
 {
     let file = opened(rt, file)?;
-    let other = opened(rt, other)?;
+    let other = opened_as(rt, other, other_source)?;
     Ok((file, other))
+}
+
+/// The files of the earlier pair.
+fn earlier_opened<R: Files>(rt: &R, earlier: Earlier<'_>) -> Result<(R::File, R::File), Answer>
+    ensures { IfErr result (IsOneUnread Source.EarlierFile Source.EarlierReport) }
+{
+    let file = opened_as(rt, earlier.file, Source::EarlierFile)?;
+    let report = opened_as(rt, earlier.report, Source::EarlierReport)?;
+    Ok((file, report))
 }
 
 /// What a file and a report of it have, and an earlier file and a report of that one.
@@ -215,10 +256,11 @@ pub(crate) fn chapter_of<I: Read + Drop, J: Read + Drop, K: Read + Drop, L: Read
     ensures earlier { IfOk result (λ all. IsRead file_limit (K.remaining earlier) all.earlier.items) }
     ensures earlier_report { IfOk result
         (λ all. IsReportOf all.earlier.items (L.remaining earlier_report) all.earlier_report.items) }
-    ensures unread { IfErr result IsUnread }
+    ensures unread { IfErr result IsChapterUnread }
 {
     let (file, report) = with_report(alloc, file, report)?;
-    let (earlier, earlier_report) = with_report(alloc, earlier, earlier_report)?;
+    let sources = (Source::EarlierFile, Source::EarlierReport);
+    let (earlier, earlier_report) = pair_of(alloc, earlier, earlier_report, sources)?;
     Ok(ChapterBytes {
         file,
         report,
@@ -237,9 +279,9 @@ pub(crate) fn chapter_opened<R: Files>(
     report: &str,
     earlier: Earlier<'_>,
 ) -> Result<(Two<R>, Two<R>), Answer>
-    ensures { IfErr result IsUnread }
+    ensures { IfErr result IsChapterUnread }
 {
-    let pair = both_opened(rt, file, report)?;
-    let before = both_opened(rt, earlier.file, earlier.report)?;
+    let pair = both_opened(rt, file, report, Source::Report)?;
+    let before = earlier_opened(rt, earlier)?;
     Ok((pair, before))
 }

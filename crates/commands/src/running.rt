@@ -25,7 +25,7 @@ pub(crate) fn run_file<T: Threads + Wait + Sync, R: Files + AllocGlobal, G: Gate
     sink: &mut S,
 ) -> Answer
     requires { FewFailed (S.failed sink.old) }
-    ensures ran { RanFile None options.checkpoint (S.bytes sink.old) (S.bytes sink.new) result }
+    ensures ran { RanFile None options.checkpoint options.seed (S.bytes sink.old) (S.bytes sink.new) result }
     ensures flushed { result ≡ Answer.Done → S.flushed sink.new ≡ true }
     ensures failures { S.failed sink.new ≡ S.failed sink.old + failed_calls result }
 {
@@ -46,7 +46,8 @@ pub fn run_input<T: Threads + Wait + Sync, I: Read + Drop, G: Gate, S: Sink>(
     sink: &mut S,
 ) -> Answer
     requires { FewFailed (S.failed sink.old) }
-    ensures ran { RanFile (I.remaining input) options.checkpoint (S.bytes sink.old) (S.bytes sink.new) result }
+    ensures ran { RanFile (I.remaining input) options.checkpoint options.seed
+        (S.bytes sink.old) (S.bytes sink.new) result }
     ensures flushed { result ≡ Answer.Done → S.flushed sink.new ≡ true }
     ensures failures { S.failed sink.new ≡ S.failed sink.old + failed_calls result }
 {
@@ -66,7 +67,7 @@ fn answered<T: Threads + Wait + Sync, G: Gate, S: Sink>(
     sink: &mut S,
 ) -> Answer
     requires { FewFailed (S.failed sink.old) }
-    ensures ran { RanBytes options.checkpoint bytes.now (S.bytes sink.old) (S.bytes sink.new) result }
+    ensures ran { RanBytes options.checkpoint options.seed bytes.now (S.bytes sink.old) (S.bytes sink.new) result }
     ensures flushed { result ≡ Answer.Done → S.flushed sink.new ≡ true }
     ensures failures { S.failed sink.new ≡ S.failed sink.old + failed_calls result }
 {

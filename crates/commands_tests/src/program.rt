@@ -95,15 +95,25 @@ const ENDS: &[Row] = &[
         0,
         "stm: there is no such transaction\n",
     ),
-    ("stm run b.stm", 4, 0, "stm: cannot read\n"),
-    ("stm check a.report b.report", 4, 0, "stm: cannot read\n"),
+    ("stm run b.stm", 4, 0, "stm: cannot read b.stm\n"),
+    (
+        "stm check a.report b.report",
+        4,
+        0,
+        "stm: cannot read b.report\n",
+    ),
     (
         "stm check a.report a.report --after a.stm b.report",
         4,
         0,
-        "stm: cannot read\n",
+        "stm: cannot read b.report\n",
     ),
-    ("stm world a.report b.schedule", 4, 0, "stm: cannot read\n"),
+    (
+        "stm world a.report b.schedule",
+        4,
+        0,
+        "stm: cannot read b.schedule\n",
+    ),
 ];
 
 /// Of a write that fails it is told, and it is not tried again.
@@ -196,7 +206,7 @@ fn a_failing_output_is_4_and_is_not_tried_again(rt: HostRuntime) {
 fn what_cannot_be_read_is_4_and_want_of_memory_is_5(rt: HostRuntime) {
     for line in UNREAD {
         for (reads, told) in [
-            (Reads::Fails, (4, 0, "stm: cannot read\n")),
+            (Reads::Fails, (4, 0, "stm: cannot read ")),
             (Reads::WantsMemory, (5, 0, "stm: out of memory\n")),
         ] {
             assert!(rt;

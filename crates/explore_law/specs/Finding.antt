@@ -40,12 +40,14 @@ pub record ShowsAt (l : Listing) (tx : TxId) (s : Sought) (p : Config) : Type 0 
   pub own : (instance_at l instance).tx ≡ tx
   pub shows : ShowsBy l instance s p
 
--- these turns lead to where it shows by this instance of the transaction, and no fewer lead to where it shows
+-- these turns lead to where it shows by this instance of the transaction, and by none that is before it; and no fewer lead
+-- to where it shows
 pub record IsWayWhere (l : Listing) (tx : TxId) (s : Sought) (turns : List InstanceId) (k : InstanceId) : Type 0 where
   pub own : (instance_at l k).tx ≡ tx
   pub config : Config
   pub leads : Leads l (first_config l) turns config
   pub shows : ShowsBy l k s config
+  pub first : (before : InstanceId) → before.0 < k.0 → (instance_at l before).tx ≡ tx → ShowsBy l before s config → ⊥
   pub fewest : (others : List InstanceId) (p : Config) → Leads l (first_config l) others p → ShowsAt l tx s p → length turns ≤ length others
 
 -- no order comes to where it shows

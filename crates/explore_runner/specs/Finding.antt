@@ -44,10 +44,12 @@ pub record LacksTransaction (input name text : List ℕ) : Type 0 where
   pub unnamed : transaction_named file name ≡ None
   pub none : text ≡ []
 
--- none of its conditions is the one that is meant, and there is no text
-pub record LacksCondition (input : List ℕ) (o : OutcomeWords) (text : List ℕ) : Type 0 where
+-- it has the transaction, but none of its conditions is the one that is meant, and there is no text
+pub record LacksCondition (input name : List ℕ) (o : OutcomeWords) (text : List ℕ) : Type 0 where
   pub file : Listing
   pub spelled : Spells input file
+  pub tx : TxId
+  pub named : transaction_named file name ≡ Some tx
   pub unmeant : sought_by file o ≡ None
   pub none : text ≡ []
 
@@ -55,7 +57,7 @@ abbrev pub IsFinding : List ℕ → ℕ → List ℕ → OutcomeWords → Sighte
 IsFinding input limit name o Report text = (a : Asks input name o) × IsSight a.file a.tx a.sought text
 IsFinding input limit name o Never text = (a : Asks input name o) × NeverShows a.file a.tx a.sought × (text ≡ codes "never\n")
 IsFinding input limit name o NoTransaction text = LacksTransaction input name text
-IsFinding input limit name o NoCondition text = LacksCondition input o text
+IsFinding input limit name o NoCondition text = LacksCondition input name o text
 IsFinding input limit name o Beyond text = IsMoreText input limit text
 
 -- such a text was written

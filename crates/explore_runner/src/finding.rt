@@ -44,8 +44,9 @@ pub enum Sighted {
 /// configurations are looked at as the limit says.
 ///
 /// `Report`: exactly the text of one such report was written, and then flushed. `Never`: the line `never` was.
-/// `Beyond`: so was the line that says that more configurations are reached. `NoTransaction`, `NoCondition`: the file
-/// has none of that name; nothing was written. An `Err` is as that of `explore_bytes`.
+/// `Beyond`: so was the line that says that more configurations are reached. `NoTransaction`: the file has none of that
+/// name, whatever is sought; `NoCondition`: it has the transaction, and no condition of that name. Nothing was written.
+/// An `Err` is as that of `explore_bytes`.
 pub fn find_bytes<S: Sink>(
     alloc: Global,
     file: &[u8],

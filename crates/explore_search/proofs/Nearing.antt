@@ -7,8 +7,7 @@ use Rattle.txn_programs.specs.declared.ast.TxId.{TxId}
 use Rattle.explore_law.specs.declared.instance.InstanceId.{InstanceId}
 use Rattle.txn_programs.specs.Listing.{Listing}
 use Rattle.explore_law.specs.declared.sought.Sought.{Sought}
-use Rattle.explore_law.specs.Finding.{ShowsAt, ShowsBy, IsWayWhere}
-use Rattle.explore_law.specs.Instances.{instance_at}
+use Rattle.explore_law.specs.Finding.{ShowsAt, IsWayWhere}
 use Rattle.explore_law.specs.Orders.{Config, Reached}
 use Rattle.explore_law.specs.Ways.{IsWay}
 use Rattle.explore_search.specs.Indexed.{config_at}
@@ -65,6 +64,7 @@ module _ (l : Listing) (tx : TxId) (s : Sought) (ps : List Config) where
         listed = omega (arith, h.listed);
         own = h.own;
         shows = h.shows;
+        first = h.first;
         most = λ i low. before_or_here i n low (λ j. ShowsAt l tx s (config_at ps j) → left_at j ≤ left_at at.0) (λ b. h.most i b) (λ shows. omega (arith, less, left));
       }
 
@@ -76,24 +76,27 @@ module _ (l : Listing) (tx : TxId) (s : Sought) (ps : List Config) where
         listed = omega (arith, h.listed);
         own = h.own;
         shows = h.shows;
+        first = h.first;
         most = λ i low. before_or_here i n low (λ j. ShowsAt l tx s (config_at ps j) → left_at j ≤ left_at at.0) (λ b. h.most i b) (λ shows. absurd (lacks shows));
       }
 
   -- one more at which it shows, and more tasks are left
-  pub nearer : (n most : ℕ) (inst : InstanceId) (r : Option (ℕ × InstanceId)) → AreLeft most r → most < left_at n → ((instance_at l inst).tx ≡ tx) × ShowsBy l inst s (config_at ps n)
+  pub nearer : (n most : ℕ) (inst : InstanceId) (r : Option (ℕ × InstanceId)) → AreLeft most r → most < left_at n → ByOrNone l tx s (config_at ps n) (Some inst)
       → IsNearestOrNone l tx s ps n r → IsNearestOrNone l tx s ps (n + 1) (Some (n, inst))
   nearer n most inst None left more shows h =
       record {
         listed = omega arith;
-        own = shows.0;
-        shows = shows.1;
+        own = shows.0.0;
+        shows = shows.0.1;
+        first = shows.1;
         most = λ i low. before_or_here i n low (λ j. ShowsAt l tx s (config_at ps j) → left_at j ≤ left_at n) (λ b w. absurd (h i b w)) (λ w. omega arith);
       }
   nearer n most inst (Some at) left more shows h =
       record {
         listed = omega arith;
-        own = shows.0;
-        shows = shows.1;
+        own = shows.0.0;
+        shows = shows.0.1;
+        first = shows.1;
         most = λ i low.
             before_or_here i n low (λ j. ShowsAt l tx s (config_at ps j) → left_at j ≤ left_at n)
             (λ b w. let below = h.most i b w in omega (arith, below, left, more)) (λ w. omega arith);
@@ -108,6 +111,7 @@ module _ (l : Listing) (tx : TxId) (s : Sought) (ps : List Config) where
         config = config_at ps j;
         leads = way.leads;
         shows = h.shows;
+        first = λ before less own shows. h.first before less (own, shows);
         fewest = λ others q leads shows.
             let at = at_contains ps q (all q (record { turns = others; leads = leads })) in
             let here : ShowsAt l tx s (config_at ps at.0) = subst (ShowsAt l tx s) (sym at.2) shows in

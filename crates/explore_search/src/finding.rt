@@ -21,8 +21,8 @@ use std::alloc::Global;
 use txn::{AlwaysId, Call, Catalogue, Fault, Memory, Outcome, TxId};
 
 /// Turns that lead from the first configuration to one at which a task of the transaction is left and what is sought
-/// of it shows, and the instance by which it shows there; no fewer turns lead to such a configuration. `None` where no
-/// order comes to one.
+/// of it shows, and the first instance by which it shows there; no fewer turns lead to such a configuration. `None`
+/// where no order comes to one.
 ///
 /// `More` where more than `limit` configurations are reached; then nothing is said of them. `Memory` where
 /// a growth was refused.

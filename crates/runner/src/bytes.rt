@@ -19,7 +19,7 @@ use txn_text::{ReadFault, read_file};
 ///
 /// `Ok`: exactly the text of one lawful report of exactly that file was written, and then flushed. With
 /// a checkpoint after each N entries its journal has fewer than N, and its base is a multiple of N; with
-/// none its base is 0.
+/// none its base is 0. With a seed its order is the one that is drawn from there on.
 /// `Input`: the bytes spell no file, and this is the first kind of fault that they have; nothing
 /// was written. `Memory`: a growth was refused; nothing was written. `Output`: a call of the sink
 /// failed, the only one, and a beginning of one such text was written.
@@ -32,7 +32,7 @@ pub fn run_bytes<R: Threads + Wait + Sync, G: Gate, S: Sink>(
     sink: &mut S,
 ) -> Result<(), RunFault>
     requires { FewFailed (S.failed sink.old) }
-    ensures ran { Ran options.checkpoint bytes.now (S.bytes sink.old) (S.bytes sink.new) result }
+    ensures ran { Ran options.checkpoint options.seed bytes.now (S.bytes sink.old) (S.bytes sink.new) result }
     ensures flushed { OnOk result (S.flushed sink.new ≡ true) }
     ensures failures { S.failed sink.new ≡ S.failed sink.old + output_failures result }
 {
@@ -54,7 +54,7 @@ fn run_on<R: Threads + Wait + Sync, G: Gate, S: Sink>(
 ) -> Result<(), RunFault>
     requires { FewFailed (S.failed sink.old) }
     ensures ran { (file : List ℕ) → Spells file catalogue.now
-        → Ran options.checkpoint file (S.bytes sink.old) (S.bytes sink.new) result }
+        → Ran options.checkpoint options.seed file (S.bytes sink.old) (S.bytes sink.new) result }
     ensures flushed { OnOk result (S.flushed sink.new ≡ true) }
     ensures failures { S.failed sink.new ≡ S.failed sink.old + output_failures result }
 {
