@@ -9,7 +9,7 @@ HERE = os.path.dirname(os.path.abspath(__file__))
 WARN = ["-Wall", "-Wextra", "-Wpedantic", "-Wconversion", "-Wshadow", "-Werror"]
 COMPILERS = ("g++", "clang++")
 # The tests of stm.hpp.
-TESTS = ("service", "started", "arguments", "tables")
+TESTS = ("service", "started", "given_up", "arguments", "tables", "refused")
 # A host that looks at no answer: each of its statements, but for the first one, is warned of.
 CARELESS = b"""#include "stm.hpp"
 void careless(stm::service &bank) {
@@ -25,6 +25,7 @@ void careless(stm::service &bank) {
     stm::service::open("");
     stm::check("", "");
     stm::run("");
+    stm::explain("");
 }
 """
 # How many minutes the simulations are run: many chapters.
@@ -44,7 +45,14 @@ get: the transaction retries
 Good
 put: returned 1, entry 1
 """
+REFUSED = """line 2, column 19: F4 Name: no variable of this name is declared; here stands heer; did you mean here?
+(tx pay (seq (set heer (sub here 60)) (set there (add there 60))) here)
+                  ^
+"""
 ORDERS = "10000 orders wait\n10000 are served: 30000 pieces\ntaken back"
+CUSTOMERS = """50000 customers, of whom 3525 left before they were served
+the others waited 0.43 minutes, at most 6
+"""
 ORDERS_IN_PYTHON = "10000 orders wait\nall are served, and paid 90000\none is taken back\n"
 ORDERS_IN_C, ORDERS_IN_CPP = f"{ORDERS}: done\nclosed: 1\n", f"{ORDERS}\nclosed\n"
 IN_RUST = {
@@ -52,6 +60,8 @@ IN_RUST = {
     "calls": CALLS,
     "chapters": "1000 minutes\n5 good\n",
     "orders": "10000 orders wait\nall are served, and paid 90000\none is taken back: true\n",
+    "refused": REFUSED,
+    "schedule": "10000 jobs wait\n10000 jobs are done, each after those that it needs\nGood\n",
     "tellers": "Ok(80)\nErr(Thrown(90))\n",
     "transfers": TRANSFERS,
     "workers": "4000 transfers, each paid or refused\nGood\n",
@@ -95,6 +105,7 @@ def cpp(case, run, work, library):
     for word in there[:1]:
         prints("bounded_queue.cpp", QUEUE, built(word, "examples/bounded_queue.cpp", "queue"))
         prints("orders.cpp", ORDERS_IN_CPP, built(word, "examples/orders.cpp", "orders"))
+        prints("refused.cpp", REFUSED, built(word, "examples/refused.cpp", "refused"))
         prints("transfers.cpp", TRANSFERS, built(word, "examples/transfers.cpp", "transfers"))
         prints("simulation.cpp", simulated(MINUTES), built(word, "examples/simulation.cpp", "simulation"), MINUTES)
     for word, (name, flag) in ((word, one) for word in there[:1] for one in (("address", "address,undefined"), ("thread", "thread"))):
@@ -120,7 +131,8 @@ def python(case, run, library):
     words = [sys.executable, "-W", "error"]
     done = run(*words, "-m", "unittest", "discover", "-s", f"{HERE}/python/tests", env=there, timeout=400)
     case("the tests in Python", done.returncode == 0, told_by(done))
-    for name, wanted in (("bank", BANK), ("bounded_queue", QUEUE), ("jobs", JOBS), ("orders", ORDERS_IN_PYTHON), ("transfers", TRANSFERS)):
+    examples = {"bank": BANK, "bounded_queue": QUEUE, "jobs": JOBS, "orders": ORDERS_IN_PYTHON}
+    for name, wanted in {**examples, "refused": REFUSED, "simulation": CUSTOMERS, "transfers": TRANSFERS}.items():
         done = run(*words, f"{HERE}/examples/{name}.py", env=there, timeout=400)
         case(f"{name}.py", done.stdout.decode() == wanted, told_by(done))
     if run(sys.executable, "-m", "mypy", "--version", env=there).returncode:

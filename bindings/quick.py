@@ -5,6 +5,7 @@ import os
 import shutil
 import sys
 
+import explained
 import languages
 
 HERE = os.path.dirname(os.path.abspath(__file__))
@@ -30,16 +31,18 @@ IN_C = [
     ("tests/started_many.c", [], GOOD),
     ("tests/started_threads.c", ["300"], GOOD),
     ("tests/taken.c", [], GOOD),
+    ("tests/asked.c", [], GOOD),
     ("tests/arguments.c", [], GOOD),
     ("tests/tables.c", [], GOOD),
     ("examples/tellers.c", [], languages.TELLERS),
     ("examples/transfers.c", [], languages.TRANSFERS),
     ("examples/orders.c", [], languages.ORDERS_IN_C),
+    ("examples/refused.c", [], languages.REFUSED),
     ("examples/jobs.c", ["4"], languages.JOBS),
 ]
 IN_CPP = [(f"tests/{name}.cpp", GOOD) for name in languages.TESTS]
 IN_CPP += [("examples/bounded_queue.cpp", languages.QUEUE), ("examples/orders.cpp", languages.ORDERS_IN_CPP)]
-IN_CPP += [("examples/transfers.cpp", languages.TRANSFERS)]
+IN_CPP += [("examples/transfers.cpp", languages.TRANSFERS), ("examples/refused.cpp", languages.REFUSED)]
 
 
 def compiled(case, run, work, library, word, source, *flags):
@@ -90,3 +93,4 @@ def tried(case, run, work, library):
     hosts(case, run, work, library)
     python(case, run, library)
     rust(case, run, work, library)
+    explained.tried(case, run, work, library)

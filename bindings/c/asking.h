@@ -37,6 +37,7 @@ static stm_answer ask_again(stm_service *s, const struct asked *asked, struct ca
         int32_t code = end_chapter(s, call, until, &is_refused);
         answer = code == STM_DONE ? ask_desk(s, asked) : bare(code);
     }
+    if (answer.code == STM_NOT_ENDED) answer.value = s->chapters.said;
     release(&s->lock);
     return answer;
 }

@@ -7,7 +7,7 @@
 #include "lock.h"
 
 /* How many arguments are asked for in a line of memory. */
-enum { FEW = 4 };
+enum { FEW = 4, MOST_ARGUMENTS = 8 };
 
 /* What a call asks for. */
 struct asked {

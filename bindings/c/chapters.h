@@ -65,6 +65,7 @@ static bool is_teller(const stm_service *s) { return s->chapters.teller == &my_s
 /* The host takes the chapter that ended when it likes. */
 static int32_t offer(stm_service *s, stm_ended *ended) {
     s->chapters.offered = *ended;
+    s->chapters.is_due = false;
     wake_first(s, &s->chapters.takers, STM_DONE);
     return STM_DONE;
 }
@@ -78,6 +79,7 @@ static int32_t tell(stm_service *s, stm_ended *ended) {
     int32_t code = tell_host(s, ended);
     take_lock(&s->lock);
     s->chapters.teller = NULL;
+    s->chapters.said++;
     if (code == STM_DONE) stm_desk_kept(&s->desk, ended);
     else stm_desk_not_kept(&s->desk, ended);
     s->chapters.is_refused = code != STM_DONE;
@@ -92,7 +94,7 @@ static int32_t wait_for_host(stm_service *s, struct call *call, const struct tim
 
 /* The chapter is full. It ends, or the one before that was not kept is told again: STM_DONE, ask again; else the code
  * of the call's answer. A call has the host asked once for what it does not keep, and the host's own call not at all.
- * With no `call` the thread does not wait for the host. */
+ * With no `call` the thread does not wait for the host, and the code is STM_NOT_ENDED. */
 static int32_t end_chapter(stm_service *s, struct call *call, const struct timespec *until, bool *is_refused) {
     stm_ended ended = {0};
     if (is_teller(s) || (*is_refused && s->chapters.is_refused)) return STM_NO_ROOM;
@@ -102,8 +104,11 @@ static int32_t end_chapter(stm_service *s, struct call *call, const struct times
     hand_on(s);
     if (!is_told) return code;
     /* It may have ended all the same, and counts as not kept then. */
-    if (code == STM_MEMORY && stm_desk_chapter(&s->desk) != chapter) s->chapters.is_refused = true;
-    if (code == STM_NOT_ENDED && !call) return STM_NO_ROOM;
+    if (code == STM_MEMORY && stm_desk_chapter(&s->desk) != chapter) {
+        s->chapters.is_refused = true;
+        s->chapters.is_due = takes_chapters(s);
+    }
+    if (code == STM_NOT_ENDED && !call) return code;
     if (code == STM_DONE) code = tell(s, &ended);
     else if (code == STM_NOT_ENDED) code = wait_for_host(s, call, until);
     else if (code == STM_MEMORY) wake_first(s, &s->chapters.takers, code);
@@ -118,7 +123,11 @@ static void tell_last(stm_service *s) {
     while (s->chapters.teller && !is_teller(s)) wait_for_host(s, &call, NULL);
     if (s->chapters.teller) return;
     s->chapters.are_over = true;
-    if (!s->chapters.is_refused || takes_chapters(s)) return;
+    if (takes_chapters(s)) {
+        s->chapters.is_due = s->chapters.offered.at || s->chapters.out || s->chapters.is_refused;
+        return;
+    }
+    if (!s->chapters.is_refused) return;
     if (stm_desk_end_chapter(&s->desk, &ended) == STM_DONE) tell(s, &ended);
 }
 

@@ -48,6 +48,10 @@ int32_t stm_open_desk(stm_store *store, stm_desk *out);
 stm_answer stm_desk_ask(stm_desk *desk, uint32_t transaction, const int64_t *arguments, size_t count, uint32_t way,
                         uint64_t whose, stm_job *job);
 
+/* How a call would end on the present values: an outcome with no ticket and no entry, STM_RETRIES; STM_CLOSED,
+ * STM_UNKNOWN, STM_MEMORY. Nothing is entered, and nothing changes. */
+stm_answer stm_desk_outcome_now(stm_desk *desk, uint32_t transaction, const int64_t *arguments, size_t count);
+
 /* What became of a call that waited, or was long; each is told once. Its outcome, as above; or STM_MEMORY or STM_CLOSED, with
  * its ticket: it was given up. STM_NOT_READY and 0: nothing is to be told. */
 stm_desk_told stm_desk_next_told(stm_desk *desk);

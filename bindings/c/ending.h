@@ -12,7 +12,8 @@ static void tell_who_asks(stm_service *s, struct started *one) {
     if (told->first) told->last->next = one;
     else told->first = one;
     told->last = one;
-    wake_first(s, &told->takers, STM_DONE);
+    if (held_back.of == s) held_back.is_any = true;
+    else wake_first(s, &told->takers, STM_DONE);
 }
 
 /* One less of those whose host asks. */
@@ -57,6 +58,7 @@ static void begin_due(stm_service *s, struct started *one, const stm_job *job) {
  * asked, who is in a call from now on. */
 static void begin_started(stm_service *s, struct started *one, const stm_answer *answer) {
     one->ticket = answer->ticket;
+    if (answer->entry > 0 && one->is_answered) return;
     s->told.count += !one->done;
     if (answer->entry > 0) {
         one->standing = HAS_ANSWER;

@@ -20,13 +20,17 @@ struct chapters {
     const void *teller;
     /* Whether the host did not keep what it was told last; and whether it was told once more since it was closed. */
     bool is_refused, are_over;
+    /* How often it has said how it went. */
+    int64_t said;
     /* The calls that wait until the host has said how it went. */
     struct call *waiting;
     /* What the host is told: only the teller has them. */
     struct text file, report;
-    /* Where the host takes them: the one that it can take; where the one lies that it has, until it has said how it
-     * went; and who waits for one. */
+    /* Where the host takes them: the one that it can take; whether it can take the one that it did not keep, or that it
+     * has and may not keep, once more; where the one lies that it has, until it has said how it went; and who waits for
+     * one. */
     stm_ended offered;
+    bool is_due;
     const void *out;
     struct call *takers;
 };

@@ -94,28 +94,25 @@ int32_t stm_wait_by(stm_waiter *waiter) {
 
 /* ---- Observers ---- */
 
-/* Beside the commits; and under the lock where too many came in between. */
-static stm_answer observe(stm_service *s, stm_worker *worker, uint32_t transaction, const int64_t *arguments,
-                          size_t count) {
+/* Beside the commits: STM_STALE where too many came in between, or no worker is idle. */
+static stm_answer observe(stm_service *s, uint32_t transaction, const int64_t *arguments, size_t count) {
     stm_answer answer = bare(STM_STALE);
+    stm_worker *worker = borrow(&s->workers);
+    if (!worker) return answer;
     for (int tries = 0; tries < TRIES && answer.code == STM_STALE; tries++) {
         answer = stm_observe(worker, transaction, arguments, count);
     }
-    if (answer.code != STM_STALE) return answer;
-    take_lock(&s->lock);
-    answer = stm_observe(worker, transaction, arguments, count);
-    release(&s->lock);
+    give_back(&s->workers, worker);
     return answer;
 }
 
 stm_answer stm_service_observe(stm_service *s, uint32_t transaction, const int64_t *arguments, size_t count) {
-    stm_answer answer = bare(STM_CLOSED);
     enter(s);
-    stm_worker *worker = borrow(&s->workers, true);
-    if (worker) {
-        bool known = transaction < stm_program_transactions(&s->program);
-        answer = known ? observe(s, worker, transaction, arguments, count) : bare(STM_UNKNOWN);
-        give_back(&s->workers, worker);
+    stm_answer answer = observe(s, transaction, arguments, count);
+    if (answer.code == STM_STALE) {
+        take_lock(&s->lock);
+        answer = stm_desk_outcome_now(&s->desk, transaction, arguments, count);
+        release(&s->lock);
     }
     leave(s);
     do_what_is_owed();
@@ -138,9 +135,10 @@ static int32_t open_store(stm_service *s, stm_store *store) {
 
 static int32_t open_desk(stm_service *s, const uint8_t *file, size_t file_length) {
     stm_store store = {0};
-    if (s->options.observers > MOST_WORKERS) return STM_NO_WORKER;
-    if (s->options.observers == 0) s->options.observers = WORKERS;
+    uint32_t *observers = &s->options.observers;
+    if (*observers > MOST_WORKERS) return STM_NO_WORKER;
     int32_t code = stm_read(file, file_length, &s->program);
+    if (code == STM_DONE && *observers == 0) code = needed_workers(&s->program, observers);
     if (code == STM_DONE) code = open_store(s, &store);
     if (code == STM_DONE) code = stm_open_desk(&store, &s->desk);
     stm_store_free(&store);
@@ -172,7 +170,6 @@ int32_t stm_service_open(const uint8_t *file, size_t file_length, const stm_serv
     open_lock(&s->lock, make, ring_all, s);
     open_table(&s->started);
     s->workers.lock = (pthread_mutex_t)PTHREAD_MUTEX_INITIALIZER;
-    s->workers.changed = (pthread_cond_t)PTHREAD_COND_INITIALIZER;
     if (options) s->options = *options;
     int32_t code = open_desk(s, file, file_length);
     if (code == STM_DONE) *out = s;
@@ -197,9 +194,9 @@ static void close_service(stm_service *s, bool again) {
     hand_on(s);
     wake_line(s, &s->chapters.waiting, STM_DONE);
     wake_line(s, &s->told.takers, STM_DONE);
-    wake_line(s, &s->chapters.takers, STM_DONE);
     close_workers(&s->workers);
     if (again || !s->chapters.are_over) tell_last(s);
+    wake_line(s, &s->chapters.takers, STM_DONE);
     unlock_and_leave(s);
     pthread_setcancelstate(before, &before);
 }

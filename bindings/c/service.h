@@ -41,8 +41,9 @@ typedef struct stm_service_options {
     size_t room;
     /* As for `stm_run_one`: a journal of so many entries is followed by a checkpoint; 0: never. */
     uint32_t checkpoint;
-    /* How many workers there are, at most 32; 0: 4. A thread takes one while it looks by `stm_service_observe`, or
-     * evaluates a long transaction. */
+    /* How many workers there are, at most 32; 0: 4 where a transaction of the file is long, else none. A thread takes
+     * one while it looks by `stm_service_observe`, or evaluates a long transaction, beside what others commit; where
+     * none is left it does so under the lock. Where there are workers each commit costs more. */
     uint32_t observers;
     /* Called with file and report of each chapter that ends, by the thread whose call has found it full, and with no
      * lock held, so it may take long. It may make any call of the service but `stm_service_free`; one that would have
@@ -156,11 +157,37 @@ typedef struct stm_call_told {
  * many; 0: there was none. STM_CLOSED: the service is closed, and each was told. */
 int64_t stm_told(stm_service *service, stm_call_told *room, size_t count, uint64_t nanoseconds);
 
+/* A call that is asked for: its transaction; its way, one of `enum stm_way`; its arguments, of which there are `count`;
+ * what `stm_told` is to give back with its answer, if it tells it; and, from `stm_ask` on, its answer. `told` is room
+ * for what became of `told_room` other calls, and `told_count` is, from `stm_ask` on, how many were told there. NULL
+ * and 0: there is none. */
+typedef struct stm_request {
+    uint32_t transaction;
+    uint32_t way;
+    size_t count;
+    int64_t arguments[8];
+    void *own;
+    stm_answer answer;
+    stm_call_told *told;
+    size_t told_room;
+    size_t told_count;
+} stm_request;
+
+/* Asks for the call, and waits for nothing but the lock. STM_RUNNING: it waits, or was long and has been evaluated by
+ * now, and its answer has its ticket: `stm_told` tells it, as a call that was started without `done`, and `stm_cancel`
+ * gives it up. STM_NOT_ENDED: nothing changed, for the chapter is full, and the host has not kept the one before it:
+ * the value is how often it has said how it went with a chapter; ask again when it has said so once more. Else it is
+ * over, and the answer, whose code this is, is as of `stm_atomically` or `stm_try_atomically`; more than 8 arguments
+ * are STM_UNKNOWN. What the call wakes, and `stm_told` would tell, is told in the request's own room while there is
+ * some, each call once: so who asks and is told in one thread need not be woken for it. */
+int32_t stm_ask(stm_service *service, stm_request *request);
+
 /* ---- Chapters that the host takes ----
  *
  * With `stm_takes_chapters` as `ended`. A chapter that is full ends, and the next one begins; when that is full too,
  * calls wait until the host has said how it went with the one before, and are answered STM_NO_ROOM if it was not kept.
- * The last chapter does not end. */
+ * What was not kept is told again as by `ended`: when the next chapter is full too, by each call that finds it so, and
+ * once by each `stm_service_close`. The last chapter does not end. */
 
 /* Waits at most so long until a chapter ended: STM_DONE, and `chapter`, which was empty, has it: write down its number,
  * file and report (`stm_ended_chapter`, `stm_ended_file`, `stm_ended_report`), which takes no lock, and then say how it
@@ -168,13 +195,13 @@ int64_t stm_told(stm_service *service, stm_call_told *room, size_t count, uint64
  * STM_FULL; STM_NOT_ENDED: the host does not take chapters. One chapter at a time is at the host. */
 int32_t stm_told_chapter(stm_service *service, stm_ended *chapter, uint64_t nanoseconds);
 
-/* The chapter was kept; or it was not, and is told again: STM_DONE, and `chapter` is empty. STM_NOT_ENDED: it is not
- * this service's; STM_EMPTY. */
+/* The chapter was kept; or it was not, and is told again as is said above: STM_DONE, and `chapter` is empty.
+ * STM_NOT_ENDED: it is not this service's; STM_EMPTY. */
 int32_t stm_chapter_kept(stm_service *service, stm_ended *chapter);
 int32_t stm_chapter_not_kept(stm_service *service, stm_ended *chapter);
 
-/* How the call would end on one state, beside what others commit: an outcome with no task and no entry, STM_RETRIES,
- * STM_CLOSED, STM_MEMORY or STM_UNKNOWN. */
+/* How the call would end on one state: an outcome with no task and no entry, STM_RETRIES, STM_CLOSED, STM_MEMORY or
+ * STM_UNKNOWN. Where a worker is idle (`observers`) it takes no lock, unless others changed what it read in 8 tries. */
 stm_answer stm_service_observe(stm_service *service, uint32_t transaction, const int64_t *arguments, size_t count);
 
 /* The present value of a variable, or of the cell that is written so, as `acct[5]`, and the number of the last entry of

@@ -30,6 +30,8 @@ struct started {
     /* The next one in its bucket; and the next one that its thread has to do with, or that is to be told. */
     struct started *beside, *next;
     bool is_long, is_due;
+    /* Whether what it ends with at once is the answer of who has asked for it, and not told. */
+    bool is_answered;
     /* Whether a thread has it, to evaluate its job: then only that lets it go. */
     bool is_at_thread;
     uint8_t standing;
@@ -122,6 +124,13 @@ static void owe_started(struct started *one) {
     else owed.first = one;
     owed.last = one;
 }
+
+/* Of which service this thread is in a call that tells its host itself what is to be told, so that nobody is woken for
+ * it; and whether there is something. */
+static __thread struct {
+    const stm_service *of;
+    bool is_any;
+} held_back __attribute__((tls_model("initial-exec")));
 
 static void do_all_owed(void);
 

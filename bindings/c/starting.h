@@ -21,7 +21,7 @@ static void call_host(struct started *one) {
 /* Has the lock: evaluates the job for as long as there is one. */
 static void evaluate_started(stm_service *s, struct started *one) {
     while (one->is_due) {
-        stm_worker *worker = borrow(&s->workers, false);
+        stm_worker *worker = borrow(&s->workers);
         stm_job job = one->is.job;
         one->is_due = false;
         int32_t code = evaluate(s, worker, &job, NULL);
@@ -72,34 +72,65 @@ static struct started *new_started(stm_service *s, stm_done *done, void *own) {
 }
 
 /* The chapter was full when it was asked for. */
-__attribute__((noinline)) static stm_answer start_again(stm_service *s, const struct asked *asked) {
+__attribute__((noinline)) static stm_answer start_again(stm_service *s, const struct asked *asked, bool waits) {
     struct call call;
     int before;
+    held_back.of = NULL;
     pthread_setcancelstate(PTHREAD_CANCEL_DISABLE, &before);
-    stm_answer answer = ask_again(s, asked, takes_chapters(s) ? NULL : &call, NULL);
+    stm_answer answer = ask_again(s, asked, waits ? &call : NULL, NULL);
     leave(s);
     pthread_setcancelstate(before, &before);
     return answer;
+}
+
+/* The call is asked for; where it waits, what becomes of it is told. `waits`: for a host that is told a chapter. From
+ * here on another thread may have let it go, but where it has its answer or something is owed. */
+static inline stm_answer start(stm_service *s, struct started *one, bool waits, uint32_t way, uint32_t transaction,
+                               const int64_t *arguments, size_t count) {
+    union seated seated;
+    ask_for(&seated.asked, whose_is(one, true), way, transaction, arguments, count);
+    make_call(&s->lock, &seated);
+    if (is_full(&seated.answer)) {
+        struct asked asked;
+        ask_for(&asked, whose_is(one, true), way, transaction, arguments, count);
+        seated.answer = start_again(s, &asked, waits);
+    }
+    return seated.answer;
 }
 
 int64_t stm_start(stm_service *s, uint32_t transaction, const int64_t *arguments, size_t count, stm_done *done,
                   void *own) {
     struct started *one = new_started(s, done, own);
     if (!one) return STM_MEMORY;
-    union seated seated;
-    ask_for(&seated.asked, whose_is(one, true), STM_WAITS, transaction, arguments, count);
-    make_call(&s->lock, &seated);
-    if (is_full(&seated.answer)) {
-        struct asked asked;
-        ask_for(&asked, whose_is(one, true), STM_WAITS, transaction, arguments, count);
-        seated.answer = start_again(s, &asked);
-    }
-    /* From here on another thread may have let it go, but where something is owed. */
-    stm_answer answer = seated.answer;
+    stm_answer answer = start(s, one, !takes_chapters(s), STM_WAITS, transaction, arguments, count);
     if (answer.ticket < 0) rattle_dealloc(one);
     else if (answer.entry > 0 ? done != NULL : answer.code == STM_RUNNING) owe_started(one);
     do_what_is_owed();
+    if (answer.code == STM_NOT_ENDED) return STM_NO_ROOM;
     return answer.ticket < 0 ? answer.code : answer.ticket;
+}
+
+/* What became of calls is told in the room of the one that was asked for, if it is held back for that. */
+static void tell_here(stm_service *s, stm_request *request, size_t room);
+
+int32_t stm_ask(stm_service *s, stm_request *request) {
+    size_t room = request->told_room;
+    bool is_known = request->count <= MOST_ARGUMENTS;
+    struct started *one = is_known ? new_started(s, NULL, request->own) : NULL;
+    request->told_count = 0;
+    request->answer = bare(is_known ? STM_MEMORY : STM_UNKNOWN);
+    if (!one) return request->answer.code;
+    one->is_answered = true;
+    held_back.of = room > 0 ? s : NULL;
+    stm_answer answer = start(s, one, false, request->way, request->transaction, request->arguments, request->count);
+    held_back.of = NULL;
+    bool waits = answer.entry == 0 && answer.ticket >= 0;
+    request->answer = answer;
+    if (!waits) rattle_dealloc(one);
+    else if (answer.code == STM_RUNNING) owe_started(one);
+    if (held_back.is_any) tell_here(s, request, room);
+    do_what_is_owed();
+    return waits ? STM_RUNNING : answer.code;
 }
 
 int32_t stm_cancel(stm_service *s, int64_t ticket) {
@@ -121,10 +152,29 @@ int32_t stm_cancel(stm_service *s, int64_t ticket) {
 /* Under the lock: takes as many as there are, but no more than that: the first one, and how many. */
 static struct started *take_told(stm_service *s, size_t most, size_t *count) {
     struct started *first = s->told.first, *after = first;
-    for (*count = 0; after && *count < most; ++*count) after = after->next;
+    struct started **end = &first;
+    for (*count = 0; after && *count < most; ++*count) after = *(end = &after->next);
+    *end = NULL;
     s->told.first = after;
     count_down(s, *count);
     return first;
+}
+
+static void tell_all(struct started *one, stm_call_told *room) {
+    for (struct started *next; one; one = next) {
+        next = one->next;
+        *room++ = (stm_call_told){one->own, one->is.answer};
+        rattle_dealloc(one);
+    }
+}
+
+static void tell_here(stm_service *s, stm_request *request, size_t room) {
+    held_back.is_any = false;
+    lock(s);
+    struct started *first = take_told(s, room, &request->told_count);
+    if (s->told.first) wake_first(s, &s->told.takers, STM_DONE);
+    unlock_and_leave(s);
+    tell_all(first, request->told);
 }
 
 static bool is_more_to_tell(const stm_service *s) { return !s->is_closed || s->told.count > 0; }
@@ -151,12 +201,7 @@ int64_t stm_told(stm_service *s, stm_call_told *room, size_t count, uint64_t nan
     int64_t answer;
     pthread_setcancelstate(PTHREAD_CANCEL_DISABLE, &before);
     struct started *one = wait_for_told(s, count, nanoseconds, &answer);
-    for (int64_t i = 0; i < answer; i++) {
-        struct started *next = one->next;
-        room[i] = (stm_call_told){one->own, one->is.answer};
-        rattle_dealloc(one);
-        one = next;
-    }
+    tell_all(one, room);
     pthread_setcancelstate(before, &before);
     return answer;
 }

@@ -170,6 +170,20 @@ int32_t stm_run_one(const uint8_t *file, size_t file_length, uint32_t checkpoint
  * does not hold. */
 int32_t stm_check(const uint8_t *file, size_t file_length, const uint8_t *report, size_t report_length);
 
+/* Where and why a file is refused: by its first fault, STM_FILE_TOO_LONG .. STM_FILE_BROKEN; its line and column, both
+ * from 1 and in bytes; and how many bytes stand before it. All are 0 of a file that is read. */
+typedef struct stm_explained {
+    int32_t code;
+    size_t line, column, place;
+} stm_explained;
+
+/* Says of a file that was refused where its first fault is, and copies the words that tell it into the room, as
+ * `stm explain` prints them: `line 3, column 12: F3 Shape: ` and what is wanted there. No newline and no 0 stand behind
+ * them. Of a file that is read there are no words. It takes some times as long as reading. With STM_SHORT `out` is
+ * written too; STM_MEMORY. */
+int32_t stm_explain(const uint8_t *file, size_t file_length, stm_explained *out, uint8_t *room, size_t room_length,
+                    size_t *wanted);
+
 /* Plays the schedule on the stepped world of the file, and copies what is seen into the room. */
 int32_t stm_world(const uint8_t *file, size_t file_length, const uint8_t *schedule, size_t schedule_length,
                   uint8_t *room, size_t room_length, size_t *wanted);

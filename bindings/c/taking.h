@@ -12,8 +12,9 @@ static int32_t take_chapter(stm_service *s, stm_ended *chapter) {
         *chapter = c->offered;
         c->offered.at = NULL;
         code = STM_DONE;
-    } else if (c->is_refused && !c->out) {
+    } else if (c->is_due && !c->out) {
         code = stm_desk_end_chapter(&s->desk, chapter);
+        c->is_due = code != STM_DONE;
         hand_on(s);
     }
     if (code == STM_DONE) c->out = chapter->at;
@@ -45,7 +46,9 @@ static int32_t says(stm_service *s, stm_ended *chapter, int32_t (*tells)(stm_des
     int32_t code = !chapter->at ? STM_EMPTY : chapter->at != s->chapters.out ? STM_NOT_ENDED : tells(&s->desk, chapter);
     if (code == STM_DONE) {
         s->chapters.out = NULL;
+        s->chapters.said++;
         s->chapters.is_refused = went != STM_DONE;
+        s->chapters.is_due &= s->chapters.is_refused;
         wake_line(s, &s->chapters.waiting, went);
         wake_line(s, &s->chapters.takers, STM_DONE);
     }

@@ -106,7 +106,7 @@ static int32_t evaluate(stm_service *s, stm_worker *worker, const stm_job *job, 
 
 /* The thread evaluates what is due of its call: so that is told its answer, or waits, or is due again. */
 static void run_due(stm_service *s, struct call *call, const struct timespec *until) {
-    stm_worker *worker = borrow(&s->workers, false);
+    stm_worker *worker = borrow(&s->workers);
     stm_job job = call->job;
     call->is_due = false;
     int32_t code = is_past(until) ? STM_TIMED_OUT : evaluate(s, worker, &job, until);

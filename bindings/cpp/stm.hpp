@@ -5,9 +5,9 @@
 ///     stm::outcome paid = bank.atomically("pay", {20});
 ///     if (paid) std::cout << *paid;
 ///
-/// Calls answer what they found or why there is nothing: compilers warn of an answer that is not looked at. Only
-/// `value()` throws; with -fno-exceptions it ends the process. Where memory runs out, the strings of the standard
-/// library throw as ever.
+/// Calls answer what they found or why there is nothing, and where a file is refused its place: compilers warn of an
+/// answer that is not looked at. Only `value()` throws; with -fno-exceptions it ends the process. Where memory runs
+/// out, the strings of the standard library throw as ever.
 #ifndef STM_HPP
 #define STM_HPP
 
@@ -39,6 +39,19 @@ namespace stm {
 /// The version of the library that is linked; that of this header is `STM_VERSION`.
 inline std::string_view version() noexcept { return stm_version(); }
 
+/// Where and why a file is refused. Of a file that is read all is 0, and there are no words.
+struct explained {
+    /// What its first fault is: `STM_FILE_TOO_LONG` .. `STM_FILE_BROKEN`.
+    std::int32_t code = STM_DONE;
+    /// Where it stands. Both count from 1, and columns in bytes.
+    std::size_t line = 0;
+    std::size_t column = 0;
+    /// How many bytes stand before it.
+    std::size_t place = 0;
+    /// The line that `stm explain` prints, without its end: `line 3, column 12: F3 Shape: ` and what is wanted there.
+    std::string words;
+};
+
 /// What `value()` throws where there is none.
 class error : public std::runtime_error {
 public:
@@ -50,6 +63,9 @@ public:
     /// What was thrown (`STM_THROWN`), or the number of the condition (`STM_BROKEN`); else 0.
     std::int64_t value() const noexcept { return value_; }
 
+protected:
+    error(std::int32_t code, const std::string &words) : runtime_error(words), code_(code), value_(0) {}
+
 private:
     static std::string text(std::int32_t code, std::int64_t value) {
         bool tells = code == STM_THROWN || code == STM_BROKEN;
@@ -60,12 +76,30 @@ private:
     std::int64_t value_;
 };
 
+/// What `value()` throws where a file was refused: `what()` tells where and why, in the words of `stm explain`.
+class refused : public error {
+public:
+    explicit refused(const explained &why)
+        : error(why.code, why.words), line_(why.line), column_(why.column), place_(why.place) {}
+
+    /// Where the first fault stands. Both count from 1, and columns in bytes.
+    std::size_t line() const noexcept { return line_; }
+    std::size_t column() const noexcept { return column_; }
+    /// How many bytes stand before it.
+    std::size_t place() const noexcept { return place_; }
+
+private:
+    std::size_t line_, column_, place_;
+};
+
 namespace detail {
 
 #if defined(__cpp_exceptions)
 [[noreturn]] inline void raise(std::int32_t code, std::int64_t value = 0) { throw error(code, value); }
+[[noreturn]] inline void raise(const explained &why) { throw refused(why); }
 #else
 [[noreturn]] inline void raise(std::int32_t, std::int64_t = 0) { std::abort(); }
+[[noreturn]] inline void raise(const explained &) { std::abort(); }
 #endif
 
 inline const std::uint8_t *bytes(std::string_view text) noexcept {
@@ -82,10 +116,12 @@ inline std::string_view text_of(const std::uint8_t *at, std::size_t length) noex
 template <class T> class [[nodiscard]] answer {
 public:
     answer(T value, std::int32_t code = STM_DONE) : value_(std::move(value)), code_(code) {}
-    static answer none(std::int32_t code) { return answer(code); }
+    static answer none(std::int32_t code, std::shared_ptr<const explained> why = nullptr) {
+        return answer(code, std::move(why));
+    }
 
     explicit operator bool() const noexcept { return value_.has_value(); }
-    /// The value; throws `error` where there is none.
+    /// The value; throws where there is none: `refused`, where it is told why a file was refused, else `error`.
     T &value() & { return held(), *value_; }
     const T &value() const & { return held(), *value_; }
     T value() && { return held(), std::move(*value_); }
@@ -98,14 +134,20 @@ public:
     /// `STM_DONE`, or another one of `enum stm_code`.
     std::int32_t code() const noexcept { return code_; }
     std::string_view word() const noexcept { return stm_word(code_); }
+    /// Where and why the call's file was refused; null where it was not, or where there was no memory to say why. It
+    /// is there as long as the answer or a copy of it.
+    const explained *why() const noexcept { return why_.get(); }
 
 private:
-    explicit answer(std::int32_t code) : code_(code) {}
+    answer(std::int32_t code, std::shared_ptr<const explained> why) : why_(std::move(why)), code_(code) {}
     void held() const {
-        if (!value_) detail::raise(code_);
+        if (value_) return;
+        if (why_) detail::raise(*why_);
+        detail::raise(code_);
     }
 
     std::optional<T> value_;
+    std::shared_ptr<const explained> why_;
     std::int32_t code_;
 };
 
@@ -176,13 +218,17 @@ private:
 /// (`STM_BAD_TEXT` .. `STM_BAD_PARKED`), or why the file is refused.
 class [[nodiscard]] verdict {
 public:
-    explicit verdict(std::int32_t code) noexcept : code_(code) {}
+    explicit verdict(std::int32_t code, std::shared_ptr<const explained> why = nullptr) noexcept
+        : why_(std::move(why)), code_(code) {}
 
     explicit operator bool() const noexcept { return code_ == STM_DONE; }
     std::int32_t code() const noexcept { return code_; }
     std::string_view word() const noexcept { return stm_word(code_); }
+    /// As of an `answer`.
+    const explained *why() const noexcept { return why_.get(); }
 
 private:
+    std::shared_ptr<const explained> why_;
     std::int32_t code_;
 };
 
@@ -203,23 +249,52 @@ template <class Call> answer<std::string> text(Call call) {
 
 } // namespace detail
 
+/// Where and why the file is refused, if it is; `STM_MEMORY`. A call that has refused a file says so by itself (`why`).
+inline answer<explained> explain(std::string_view file) {
+    stm_explained told = {0, 0, 0, 0};
+    auto words = detail::text([&](std::uint8_t *room, std::size_t length, std::size_t *wanted) {
+        return stm_explain(detail::bytes(file), file.size(), &told, room, length, wanted);
+    });
+    if (!words) return answer<explained>::none(words.code());
+    return answer<explained>(explained{told.code, told.line, told.column, told.place, std::move(*words)});
+}
+
+namespace detail {
+
+/// Where and why the file is refused; null where the code is none of a file.
+inline std::shared_ptr<const explained> why(std::string_view file, std::int32_t code) {
+    if (code > STM_FILE_TOO_LONG || code < STM_FILE_BROKEN || code == STM_MEMORY) return nullptr;
+    auto found = explain(file);
+    return found ? std::make_shared<const explained>(std::move(*found)) : nullptr;
+}
+
+/// As `text`, by a call that reads the file.
+template <class Call> answer<std::string> text_of_file(std::string_view file, Call call) {
+    auto told = text(std::move(call));
+    if (!told) return answer<std::string>::none(told.code(), why(file, told.code()));
+    return told;
+}
+
+} // namespace detail
+
 /// The report of all tasks of the file, one after another on this thread. A journal of `checkpoint` entries is followed
 /// by a checkpoint; 0: never.
 inline answer<std::string> run(std::string_view file, std::uint32_t checkpoint = 0) {
-    return detail::text([&](std::uint8_t *room, std::size_t length, std::size_t *wanted) {
+    return detail::text_of_file(file, [&](std::uint8_t *room, std::size_t length, std::size_t *wanted) {
         return stm_run_one(detail::bytes(file), file.size(), checkpoint, room, length, wanted);
     });
 }
 
 /// Whether the report is lawful for the file.
-inline verdict check(std::string_view file, std::string_view report) noexcept {
-    return verdict(stm_check(detail::bytes(file), file.size(), detail::bytes(report), report.size()));
+inline verdict check(std::string_view file, std::string_view report) {
+    auto code = stm_check(detail::bytes(file), file.size(), detail::bytes(report), report.size());
+    return verdict(code, detail::why(file, code));
 }
 
 /// What is seen of the schedule on the stepped world of the file.
 inline answer<std::string> world(std::string_view file, std::string_view schedule) {
     const std::uint8_t *events = detail::bytes(schedule);
-    return detail::text([&](std::uint8_t *room, std::size_t length, std::size_t *wanted) {
+    return detail::text_of_file(file, [&](std::uint8_t *room, std::size_t length, std::size_t *wanted) {
         return stm_world(detail::bytes(file), file.size(), events, schedule.size(), room, length, wanted);
     });
 }
@@ -227,14 +302,14 @@ inline answer<std::string> world(std::string_view file, std::string_view schedul
 /// What is found when every order of the file's tasks is seen, of at most so many states. Where more are reached the
 /// code is `STM_MORE`, and the text says so.
 inline answer<std::string> explore(std::string_view file, std::uint32_t states) {
-    return detail::text([&](std::uint8_t *room, std::size_t length, std::size_t *wanted) {
+    return detail::text_of_file(file, [&](std::uint8_t *room, std::size_t length, std::size_t *wanted) {
         return stm_explore(detail::bytes(file), file.size(), states, room, length, wanted);
     });
 }
 
 /// The report of a run that comes to the end of this number, counted from 1 as `explore` lists them.
 inline answer<std::string> explore_to(std::string_view file, std::uint32_t states, std::size_t end) {
-    return detail::text([&](std::uint8_t *room, std::size_t length, std::size_t *wanted) {
+    return detail::text_of_file(file, [&](std::uint8_t *room, std::size_t length, std::size_t *wanted) {
         return stm_explore_to(detail::bytes(file), file.size(), states, end, room, length, wanted);
     });
 }
@@ -252,7 +327,9 @@ struct options {
     std::size_t room = 0;
     /// A journal of so many entries is followed by a checkpoint; 0: never.
     std::uint32_t checkpoint = 0;
-    /// How many workers there are, at most 32; 0: 4. A thread has one while it observes, or runs a long transaction.
+    /// How many workers there are, at most 32; 0: 4 where a transaction is long, else none. A thread has one while it
+    /// observes, or runs a long transaction, beside what others commit; where none is left it does so under the lock.
+    /// Where there are workers each commit costs more.
     std::uint32_t observers = 0;
     keeper on_chapter = nullptr;
 };
@@ -300,7 +377,8 @@ public:
         auto *hook = made->keep ? ended : nullptr;
         stm_service_options given = {how.room, how.checkpoint, how.observers, hook, made.get()};
         std::int32_t code = stm_service_open(detail::bytes(file), file.size(), &given, &made->at);
-        return code == STM_DONE ? answer<service>(service(std::move(made))) : answer<service>::none(code);
+        if (code != STM_DONE) return answer<service>::none(code, detail::why(file, code));
+        return answer<service>(service(std::move(made)));
     }
 
     service(service &&) noexcept = default;

@@ -112,17 +112,18 @@ static void rooms(void) {
 
 /* Which transactions are long: a byte for each, in their order. */
 static void long_ones(void) {
-    static const char text[] = "(var x 0)(tx short (repeat 10 (set x 1)) x)(tx long (repeat 100 (repeat 100 (set x 1))) x)(tx none (skip) 0)";
-    stm_program three = {0}, none = {0};
+    static const char text[] = "(var x 0)(tx short (repeat 10 (set x 1)) x)(tx long (repeat 100 (repeat 100 (set x 1))) x)(tx none (skip) 0)"
+                               "(tx light (repeat 50 (if (lt x 0) (throw 1) (skip))) x)(tx below (repeat 399 (set x 1)) x)(tx from (repeat 400 (set x 1)) x)";
+    stm_program six = {0}, none = {0};
     size_t wanted = 99;
-    wants(stm_read(bytes(text), strlen(text), &three) == STM_DONE);
-    wants(stm_program_long(&three, NULL, 0, &wanted) == STM_SHORT && wanted == 3);
-    memset(room, '?', 4), wanted = 99;
-    wants(stm_program_long(&three, room, 2, &wanted) == STM_SHORT && wanted == 3 && room[0] == '?');
-    wants(stm_program_long(&three, room, 3, &wanted) == STM_DONE && wanted == 3 && memcmp(room, "\0\1\0?", 4) == 0);
+    wants(stm_read(bytes(text), strlen(text), &six) == STM_DONE);
+    wants(stm_program_long(&six, NULL, 0, &wanted) == STM_SHORT && wanted == 6);
+    memset(room, '?', 7), wanted = 99;
+    wants(stm_program_long(&six, room, 5, &wanted) == STM_SHORT && wanted == 6 && room[0] == '?');
+    wants(stm_program_long(&six, room, 6, &wanted) == STM_DONE && wanted == 6 && memcmp(room, "\0\1\0\0\0\1?", 7) == 0);
     wants(stm_program_long(&none, room, 3, &wanted) == STM_EMPTY && wanted == 0 && room[1] == 1);
     wants(stm_read(NULL, 0, &none) == STM_DONE && stm_program_long(&none, NULL, 0, &wanted) == STM_DONE && wanted == 0);
-    stm_program_free(&three);
+    stm_program_free(&six);
     stm_program_free(&none);
 }
 
@@ -154,6 +155,30 @@ static void no_texts(void) {
     wanted = 99;
     wants(stm_file(&none, room, sizeof room, &wanted) == STM_EMPTY && wanted == 0);
     wants(room[0] == '?');
+}
+
+static int is_there(const stm_explained *out, int32_t code, size_t line, size_t column, size_t place) {
+    return out->code == code && out->line == line && out->column == column && out->place == place;
+}
+
+/* Where and in which words a file is refused; a room that is a byte too short stays as it was. */
+static void explained(void) {
+    static const char file[] = "(var x 0)\n(tx t (set y 1) x)", words[] = "line 2, column 12: F4 Name: ";
+    stm_explained out = {9, 9, 9, 9};
+    size_t wanted = 99, again = 99;
+    wants(stm_explain(bytes(file), strlen(file), &out, NULL, 0, &wanted) == STM_SHORT && wanted > sizeof words);
+    wants(is_there(&out, STM_FILE_NAME, 2, 12, 21));
+    memset(room, '?', wanted + 1), memset(&out, 0, sizeof out);
+    wants(stm_explain(bytes(file), strlen(file), &out, room, wanted - 1, &again) == STM_SHORT && again == wanted);
+    wants(is_there(&out, STM_FILE_NAME, 2, 12, 21) && room[0] == '?');
+    wants(stm_explain(bytes(file), strlen(file), &out, room, wanted, &again) == STM_DONE && again == wanted);
+    wants(memcmp(room, words, sizeof words - 1) == 0 && !memchr(room, '\n', wanted) && room[wanted] == '?');
+    for (int empty = 0; empty < 2; empty++) {
+        memset(&out, 9, sizeof out), wanted = 99;
+        size_t length = empty ? 0 : strlen(FILE_TEXT);
+        wants(stm_explain(empty ? NULL : bytes(FILE_TEXT), length, &out, NULL, 0, &wanted) == STM_DONE && wanted == 0);
+        wants(is_there(&out, STM_DONE, 0, 0, 0));
+    }
 }
 
 /* Inputs of no length: the file that declares nothing, a report that is none, the name of nothing. */
@@ -226,6 +251,7 @@ int main(void) {
     nothing();
     jobs();
     no_texts();
+    explained();
     rooms();
     long_ones();
     stm_store_free(&store);

@@ -82,6 +82,7 @@ static void of_empty_handles(void) {
     stm_counts counts = {.ready = 9};
     reads(QUEUE, 1);
     wants(is_none(asks(PUT, STM_WAITS, 1), -1, STM_EMPTY, 0));
+    wants(stm_desk_outcome_now(&desk, PUT, &value, 1).code == STM_EMPTY);
     wants(stm_desk_next_told(&desk).answer.code == STM_EMPTY && stm_desk_next_due(&desk).job.ticket == STM_EMPTY);
     wants(stm_desk_bring(&desk, &worker) == STM_EMPTY && stm_desk_run_now(&desk, job) == STM_EMPTY);
     wants(stm_desk_leave(&desk, 0) == STM_EMPTY && stm_desk_close(&desk) == STM_EMPTY);
@@ -133,6 +134,26 @@ static void calls(void) {
     told = stm_desk_next_told(&desk);
     wants(told.whose == 43 && is_at(told.answer, 5, STM_CLOSED, 0, 0, 0, 0) && is_all_told());
     wants(stm_desk_leave(&desk, 5) == STM_GONE);
+    ends();
+}
+
+static stm_answer would_end(uint32_t transaction, size_t count) {
+    return stm_desk_outcome_now(&desk, transaction, (int64_t[]){1, 1}, count);
+}
+
+/* How calls would end: nothing comes of it, also where one would wake who waits. */
+static void looked_ahead(void) {
+    opens(2);
+    wants(is_at(would_end(PUT, 1), -1, STM_DONE, 1, 0, 0, 0) && is_at(would_end(PUT, 1), -1, STM_DONE, 1, 0, 0, 0));
+    wants(is_at(would_end(GET, 0), -1, STM_RETRIES, 0, 0, 0, 0) && is_at(would_end(FAIL, 0), -1, STM_THROWN, 7, 0, 0, 0));
+    wants(is_at(would_end(LONG_GET, 0), -1, STM_RETRIES, 0, 0, 0, 0));
+    wants(is_at(would_end(9, 0), -1, STM_UNKNOWN, 0, 0, 0, 0) && would_end(GET, 1).code == STM_UNKNOWN);
+    wants(would_end(PUT, 0).code == STM_UNKNOWN && would_end(PUT, 2).code == STM_UNKNOWN);
+    wants(stm_desk_entered(&desk) == 0 && stm_desk_spare(&desk) == 2 && value_of("made") == 0 && is_all_told());
+    wants(asks(PUT, STM_WAITS, 1).ticket == 1 && is_at(would_end(LONG_GET, 0), -1, STM_RETRIES, 0, 0, 0, 0));
+    wants(asks(PUT, STM_WAITS, 1).ticket == 2 && is_at(would_end(LONG_GET, 0), -1, STM_DONE, 2, 0, 0, 0));
+    wants(asks(GET, STM_TRIES, 1).code == STM_CHAPTER_FULL && is_at(would_end(GET, 0), -1, STM_DONE, 2, 0, 0, 0));
+    wants(stm_desk_close(&desk) == STM_DONE && is_at(would_end(GET, 0), -1, STM_CLOSED, 0, 0, 0, 0));
     ends();
 }
 
@@ -247,6 +268,7 @@ int main(void) {
     of_empty_handles();
     opened();
     calls();
+    looked_ahead();
     long_calls();
     stranger();
     chapters();

@@ -71,6 +71,9 @@ static void is_good(void) {
 
 static void lives(void) {
     opens();
+    stm_answer end;
+    while ((end = stm_desk_outcome_now(&desk, LONG_GET, NULL, 0)).code == STM_MEMORY) refusals++;
+    wants(end.code == STM_RETRIES && end.ticket == -1);
     wants(asks(GET, 1).code == STM_RETRIES && asks(LONG_GET, 2).code == STM_RUNNING);
     int32_t tried;
     while ((tried = stm_try_job(&worker, job)) == STM_MEMORY) refusals++;

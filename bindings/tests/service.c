@@ -85,6 +85,22 @@ static void short_rooms(stm_service *s) {
     wants(stm_service_report(s, room, report, &again) == STM_DONE && stm_service_file(s, room, file, &again) == STM_DONE);
 }
 
+/* With workers or without, it is told the same how a call would end. */
+static void observed(uint32_t observers) {
+    stm_service_options options = {0, 0, observers, NULL, NULL};
+    stm_service *s = opens(ENDS, &options);
+    uint32_t wait = number_of(s, "wait");
+    wants(is(stm_service_observe(s, wait, NULL, 0), STM_RETRIES, 0, 0));
+    wants(is(stm_service_observe(s, number_of(s, "inc"), NULL, 0), STM_DONE, 10, 0));
+    wants(is(stm_service_observe(s, number_of(s, "bad"), NULL, 0), STM_THROWN, 9, 0));
+    wants(is(stm_service_observe(s, number_of(s, "break"), NULL, 0), STM_BROKEN, 0, 0));
+    wants(is(stm_service_observe(s, 99, NULL, 0), STM_UNKNOWN, 0, 0));
+    wants(stm_service_entered(s) == 3 && value_of(s, "n") == 9);
+    stm_service_close(s);
+    wants(is(stm_service_observe(s, wait, NULL, 0), STM_CLOSED, 0, 0));
+    stm_service_free(s);
+}
+
 /* What is refused leaves no entry; and a closed service answers what asks for no transaction. */
 static void what_is_refused(void) {
     stm_service *s = opens(ENDS, NULL);
@@ -315,6 +331,7 @@ static void with_checkpoints(void) {
 
 int main(void) {
     each_end();
+    for (uint32_t observers = 0; observers <= 32; observers += 16) observed(observers);
     what_is_refused();
     what_is_not_opened();
     the_longest_chapters();

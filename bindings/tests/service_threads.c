@@ -159,12 +159,14 @@ static void *moves(void *own) {
     return NULL;
 }
 
+#define MOVES_AND_SUMS "(var a 0)(var b 0)(var c 0)(var d 0)" \
+    "(tx move (seq (set a (add a 1)) (set b (sub b 1))) a)(tx sum (skip) (add a b))"
+#define SLOW_SUM "(tx slow (seq (set c a) (repeat 10 (repeat 1000 (set d (add d 1))))) (add c b))"
+
 /* More threads look at a sum than there are observers, beside those that move between its parts. One sum takes so long
- * that something is moved meanwhile each time. */
+ * that something is moved meanwhile each time; or, with no observers, all are short. */
 static void observers_beside(uint32_t observers) {
-    static const char text[] =
-        "(var a 0)(var b 0)(var c 0)(var d 0)(tx move (seq (set a (add a 1)) (set b (sub b 1))) a)(tx sum (skip) (add a b))"
-        "(tx slow (seq (set c a) (repeat 10 (repeat 1000 (set d (add d 1))))) (add c b))";
+    const char *text = observers > 0 ? MOVES_AND_SUMS SLOW_SUM : MOVES_AND_SUMS "(tx slow (skip) (add a b))";
     stm_service_options options = {100, 0, observers, NULL, NULL};
     struct worker lookers[4] = {{SUM, 0, 0, 0, 0}, {SUM, 0, 0, 0, 0}, {SLOW, 0, 0, 0, 0}, {SLOW, 0, 0, 0, 0}}, movers[2] = {{0}};
     pthread_t threads[4];
@@ -210,7 +212,7 @@ int main(int count, char **words) {
     for (int pairs = 1; pairs <= 8; pairs *= 2) producers_and_consumers(pairs, pairs < 4 ? 50 : 0);
     for (int threads = 2; threads <= 16; threads *= 2) late_while_woken(threads, threads < 8 ? 0 : 100);
     for (int puts = 0; puts <= 50; puts += 25) closed_while_they_wait(puts, 1), closed_while_they_wait(puts, 0);
-    for (uint32_t observers = 1; observers <= 4; observers *= 4) observers_beside(observers);
+    for (uint32_t observers = 0; observers <= 4; observers += 2) observers_beside(observers);
     short_runs(runs);
     printf("good\n");
     return 0;

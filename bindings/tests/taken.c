@@ -66,24 +66,50 @@ static void is_taken(void) {
     stm_service_free(s);
 }
 
+static void is_not_kept(stm_service *s, stm_ended *chapter) {
+    wants(stm_told_chapter(s, chapter, LONG_TIME) == STM_DONE && is(chapter, 0, 3));
+    wants(stm_chapter_not_kept(s, chapter) == STM_DONE && !chapter->at);
+    wants(stm_chapter_not_kept(s, chapter) == STM_EMPTY);
+}
+
+/* It is told again when the next chapter is full too, by each call that finds it so, and once by each closing. */
 static void is_told_until_it_is_kept(void) {
     stm_service *s = taking(3);
     stm_ended chapter = {0};
     wants(incs(s, 4) == STM_DONE);
+    is_not_kept(s, &chapter);
+    wants(stm_told_chapter(s, &chapter, MILLISECOND) == STM_TIMED_OUT && stm_service_chapter(s) == 1);
+    wants(incs(s, 2) == STM_DONE && stm_told_chapter(s, &chapter, 0) == STM_TIMED_OUT);
     for (int i = 0; i < 3; i++) {
-        wants(stm_told_chapter(s, &chapter, LONG_TIME) == STM_DONE && is(&chapter, 0, 3));
-        wants(stm_chapter_not_kept(s, &chapter) == STM_DONE && !chapter.at);
-        wants(stm_chapter_not_kept(s, &chapter) == STM_EMPTY);
+        if (i % 2) wants(stm_atomically_within(s, INC, NULL, 0, MILLISECOND).code == STM_TIMED_OUT);
+        else wants(stm_start(s, INC, NULL, 0, NULL, NULL) == STM_NO_ROOM);
+        is_not_kept(s, &chapter);
+        wants(stm_told_chapter(s, &chapter, 0) == STM_TIMED_OUT && !chapter.at);
     }
-    wants(stm_service_chapter(s) == 1 && incs(s, 2) == STM_DONE);
-    /* The next is full too; the call has it offered again, and waits. */
-    wants(stm_atomically_within(s, INC, NULL, 0, MILLISECOND).code == STM_TIMED_OUT);
-    wants(stm_start(s, INC, NULL, 0, NULL, NULL) == STM_NO_ROOM);
-    wants(stm_told_chapter(s, &chapter, 0) == STM_DONE && is(&chapter, 0, 3));
-    wants(stm_chapter_not_kept(s, &chapter) == STM_DONE);
+    for (int i = 0; i < 3; i++) {
+        stm_service_close(s);
+        is_not_kept(s, &chapter);
+        wants(stm_told_chapter(s, &chapter, LONG_TIME) == STM_CLOSED);
+    }
     stm_service_close(s);
     wants(stm_told_chapter(s, &chapter, 0) == STM_DONE && is(&chapter, 0, 3));
     wants(stm_chapter_kept(s, &chapter) == STM_DONE && stm_told_chapter(s, &chapter, LONG_TIME) == STM_CLOSED);
+    stm_service_close(s);
+    wants(stm_told_chapter(s, &chapter, LONG_TIME) == STM_CLOSED);
+    stm_service_free(s);
+}
+
+/* It is closed while its host has the chapter, or could take it: what it does not keep then is told once more. */
+static void is_closed_meanwhile(bool is_out) {
+    stm_service *s = taking(3);
+    stm_ended chapter = {0};
+    wants(incs(s, 4) == STM_DONE);
+    if (is_out) wants(stm_told_chapter(s, &chapter, 0) == STM_DONE);
+    stm_service_close(s);
+    if (is_out) wants(stm_chapter_not_kept(s, &chapter) == STM_DONE);
+    else is_not_kept(s, &chapter);
+    is_not_kept(s, &chapter);
+    wants(stm_told_chapter(s, &chapter, LONG_TIME) == STM_CLOSED);
     stm_service_free(s);
 }
 
@@ -222,6 +248,8 @@ static void one_thread_does_both(void) {
 int main(void) {
     is_taken();
     is_told_until_it_is_kept();
+    is_closed_meanwhile(true);
+    is_closed_meanwhile(false);
     outlives_the_service();
     takes_none();
     beside_calls();

@@ -12,7 +12,8 @@
         bank.atomically("add", [3, 5])
         bank.value("acct[3]"), bank.table("acct")[3], sum(bank.table("acct"))  # 5, 5, 5
 
-`run`, `check`, `world`, `explore` and `explore_to` take whole files.
+`run`, `check`, `world`, `explore` and `explore_to` take whole files. Where a file is refused, `Refused` tells its line
+and column, as `explain` does.
 """
 
 from ._faults import (
@@ -34,7 +35,7 @@ from ._faults import (
     Unknown,
     WrongArguments,
 )
-from ._files import Verdict, check, explore, explore_to, run, version, world
+from ._files import Verdict, check, explain, explore, explore_to, run, version, world
 from ._service import Service
 from ._table import Table
 
@@ -60,6 +61,7 @@ __all__ = [
     "Verdict",
     "WrongArguments",
     "check",
+    "explain",
     "explore",
     "explore_to",
     "run",

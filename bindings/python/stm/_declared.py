@@ -7,9 +7,22 @@ from typing import Any, Dict, List, Tuple
 
 # What the calls answer, by the names of the header.
 DONE, RETRIES, GIVEN_UP, THROWN, OVERFLOW, DIVIDE_BY_ZERO, BROKEN, MORE, NO_END = 0, 1, 4, 5, 6, 7, 8, 9, 10
+FILE_TOO_LONG, FILE_BAD_BYTE, FILE_SHAPE, FILE_NAME, FILE_LIMIT, FILE_BROKEN = -1, -2, -3, -4, -5, -7
 OUTSIDE = 16
 BAD_TEXT, BAD_BASE, BAD_ENTRIES, BAD_PRESENT, BAD_TASKS, BAD_PARKED = 101, 102, 103, 104, 105, 106
-MEMORY, SHORT, UNKNOWN, NO_ROOM, CLOSED, TIMED_OUT = -6, -8, -9, -14, -19, -20
+RUNNING = 14
+MEMORY, SHORT, UNKNOWN, NOT_ENDED, NO_ROOM, CLOSED, TIMED_OUT = -6, -8, -9, -11, -14, -19, -20
+# What a call does where the transaction retries, by the names of the header.
+WAITS, TRIES = 0, 1
+
+
+class Explained(ctypes.Structure):
+    _fields_ = [
+        ("code", ctypes.c_int32),
+        ("line", ctypes.c_size_t),
+        ("column", ctypes.c_size_t),
+        ("place", ctypes.c_size_t),
+    ]
 
 
 class Answer(ctypes.Structure):
@@ -23,54 +36,48 @@ class Answer(ctypes.Structure):
     ]
 
 
-Ended = ctypes.CFUNCTYPE(
-    ctypes.c_int,
-    ctypes.c_void_p,
-    ctypes.POINTER(ctypes.c_char),
-    ctypes.c_size_t,
-    ctypes.POINTER(ctypes.c_char),
-    ctypes.c_size_t,
-)
-
-
 class Options(ctypes.Structure):
     _fields_ = [
         ("room", ctypes.c_size_t),
         ("checkpoint", ctypes.c_uint32),
         ("observers", ctypes.c_uint32),
-        ("ended", Ended),
+        # Where a function of the library lies, or nothing: none of Python is called.
+        ("ended", ctypes.c_void_p),
         ("own", ctypes.c_void_p),
     ]
 
 
-Asked = ctypes.CFUNCTYPE(None, ctypes.c_void_p)
-
-
-class Keeper(ctypes.Structure):
-    _fields_ = [
-        ("asked", Asked),
-        ("own", ctypes.c_void_p),
-        ("file", ctypes.c_void_p),
-        ("file_length", ctypes.c_size_t),
-        ("report", ctypes.c_void_p),
-        ("report_length", ctypes.c_size_t),
-        ("kept", ctypes.c_int32),
-    ]
-
-
-class Waiter(ctypes.Structure):
-    _fields_ = [("asked", Asked), ("own", ctypes.c_void_p), ("stopped", ctypes.c_int32)]
+class EndedChapter(ctypes.Structure):
+    _fields_ = [("at", ctypes.c_void_p)]
 
 
 class CallTold(ctypes.Structure):
     _fields_ = [("own", ctypes.c_void_p), ("answer", Answer)]
 
 
+class Request(ctypes.Structure):
+    _fields_ = [
+        ("transaction", ctypes.c_uint32),
+        ("way", ctypes.c_uint32),
+        ("count", ctypes.c_size_t),
+        ("arguments", ctypes.c_int64 * 8),
+        ("own", ctypes.c_void_p),
+        ("answer", Answer),
+        ("told", ctypes.POINTER(CallTold)),
+        ("told_room", ctypes.c_size_t),
+        ("told_count", ctypes.c_size_t),
+    ]
+
+
+# How the begin of a request is packed, before its arguments.
+BEGIN = "IIN"
+
+
 _TEXT = [ctypes.c_char_p, ctypes.c_size_t]
 _ROOM = [ctypes.c_char_p, ctypes.c_size_t, ctypes.POINTER(ctypes.c_size_t)]
 _SERVICE, _TX, _CODE, _COUNT = ctypes.c_void_p, ctypes.c_uint32, ctypes.c_int32, ctypes.c_uint64
-# A service, a transaction and its arguments.
-_CALL = [_SERVICE, _TX, ctypes.POINTER(ctypes.c_int64), ctypes.c_size_t]
+# A service, a transaction, and where its arguments lie.
+_CALL = [_SERVICE, _TX, ctypes.c_void_p, ctypes.c_size_t]
 
 # Each call: what it answers, and what it takes.
 CALLS: Dict[str, Tuple[Any, List[Any]]] = {
@@ -78,21 +85,26 @@ CALLS: Dict[str, Tuple[Any, List[Any]]] = {
     "stm_word": (ctypes.c_char_p, [_CODE]),
     "stm_run_one": (_CODE, [*_TEXT, ctypes.c_uint32, *_ROOM]),
     "stm_check": (_CODE, [*_TEXT, *_TEXT]),
+    "stm_explain": (_CODE, [*_TEXT, ctypes.POINTER(Explained), *_ROOM]),
     "stm_world": (_CODE, [*_TEXT, *_TEXT, *_ROOM]),
     "stm_explore": (_CODE, [*_TEXT, ctypes.c_uint32, *_ROOM]),
     "stm_explore_to": (_CODE, [*_TEXT, ctypes.c_uint32, ctypes.c_size_t, *_ROOM]),
-    "stm_ask_keeper": (ctypes.c_int, [ctypes.c_void_p, *_TEXT, *_TEXT]),
+    "stm_takes_chapters": (ctypes.c_int, [ctypes.c_void_p, *_TEXT, *_TEXT]),
     "stm_service_open": (_CODE, [*_TEXT, ctypes.POINTER(Options), ctypes.POINTER(_SERVICE)]),
     "stm_service_transaction": (ctypes.c_int64, [_SERVICE, *_TEXT]),
     "stm_service_parameters": (ctypes.c_int64, [_SERVICE, _TX]),
     "stm_atomically": (Answer, _CALL),
     "stm_try_atomically": (Answer, _CALL),
     "stm_atomically_within": (Answer, [*_CALL, ctypes.c_uint64]),
-    "stm_wait_by": (_CODE, [ctypes.POINTER(Waiter)]),
-    # Nobody is called.
-    "stm_start": (ctypes.c_int64, [*_CALL, ctypes.c_void_p, ctypes.c_void_p]),
+    # The last is where a request lies.
+    "stm_ask": (_CODE, [_SERVICE, ctypes.c_void_p]),
     "stm_cancel": (_CODE, [_SERVICE, ctypes.c_int64]),
     "stm_told": (ctypes.c_int64, [_SERVICE, ctypes.POINTER(CallTold), ctypes.c_size_t, ctypes.c_uint64]),
+    "stm_told_chapter": (_CODE, [_SERVICE, ctypes.POINTER(EndedChapter), ctypes.c_uint64]),
+    "stm_chapter_kept": (_CODE, [_SERVICE, ctypes.POINTER(EndedChapter)]),
+    "stm_chapter_not_kept": (_CODE, [_SERVICE, ctypes.POINTER(EndedChapter)]),
+    "stm_ended_file": (_CODE, [ctypes.POINTER(EndedChapter), *_ROOM]),
+    "stm_ended_report": (_CODE, [ctypes.POINTER(EndedChapter), *_ROOM]),
     "stm_service_observe": (Answer, _CALL),
     "stm_service_value": (
         _CODE,

@@ -2,6 +2,8 @@
 
 from __future__ import annotations
 
+from typing import Any, Optional, Tuple
+
 from ._library import word
 
 
@@ -10,12 +12,22 @@ class Error(Exception):
 
 
 class Refused(Error, ValueError):
-    """The file, the schedule, or a number is refused: the library's code, and its word."""
+    """The file, the schedule, or a number is refused: the library's code, and its word. Of a file, `line` and `column`
+    tell where its first fault stands; they count from 1, columns in bytes. The text is the line that `stm explain`
+    prints. Of anything else both are None, and the text is the word."""
 
-    def __init__(self, code: int) -> None:
-        super().__init__(word(code))
+    def __init__(
+        self, code: int, text: Optional[str] = None, line: Optional[int] = None, column: Optional[int] = None
+    ) -> None:
+        super().__init__(word(code) if text is None else text)
         self.code = code
         self.word = word(code)
+        self.line = line
+        self.column = column
+
+    def __reduce__(self) -> Tuple[Any, ...]:
+        # As what it was made of it goes from process to process.
+        return Refused, (self.code, str(self), self.line, self.column)
 
 
 class MoreStates(Error):

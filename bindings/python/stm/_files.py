@@ -4,7 +4,7 @@ from __future__ import annotations
 
 import ctypes
 import enum
-from typing import Callable
+from typing import Callable, Optional
 
 from . import _declared
 from ._faults import MoreStates, NoEnd, OutOfMemory, Refused
@@ -22,19 +22,32 @@ def copied(call: Callable[..., int], *given: object) -> tuple[int, str]:
         length = wanted.value
 
 
-def refused(code: int) -> Exception:
-    """What is raised for a code of a whole file."""
+_OF_A_FILE = (
+    _declared.FILE_TOO_LONG,
+    _declared.FILE_BAD_BYTE,
+    _declared.FILE_SHAPE,
+    _declared.FILE_NAME,
+    _declared.FILE_LIMIT,
+    _declared.FILE_BROKEN,
+)
+
+
+def refused(code: int, file: Optional[str] = None) -> Exception:
+    """What is raised for the code of a call, which has read the file, or none."""
     if code == _declared.MEMORY:
         return OutOfMemory()
-    return NoEnd() if code == _declared.NO_END else Refused(code)
+    if code == _declared.NO_END:
+        return NoEnd()
+    found = explain(file) if file is not None and code in _OF_A_FILE else None
+    return found or Refused(code)
 
 
-def _text(call: Callable[..., int], *given: object) -> str:
-    code, text = copied(call, *given)
+def _text(call: Callable[..., int], file: str, *given: object) -> str:
+    code, text = copied(call, *taken(file), *given)
     if code == _declared.MORE:
         raise MoreStates(text)
     if code != _declared.DONE:
-        raise refused(code)
+        raise refused(code, file)
     return text
 
 
@@ -76,30 +89,39 @@ class Verdict(enum.Enum):
 def run(file: str, checkpoint: int = 0) -> str:
     """The report of all tasks of the file, one after another. A journal of `checkpoint` entries is followed by a
     checkpoint; 0: never."""
-    return _text(library.stm_run_one, *taken(file), bounded(checkpoint, 32))
+    return _text(library.stm_run_one, file, bounded(checkpoint, 32))
+
+
+def explain(file: str) -> Optional[Refused]:
+    """Where and why the file is refused, or None where it is read. What each call that reads a file raises."""
+    told = _declared.Explained()
+    code, text = copied(library.stm_explain, *taken(file), ctypes.byref(told))
+    if code != _declared.DONE:
+        raise refused(code)
+    return None if told.code == _declared.DONE else Refused(told.code, text, told.line, told.column)
 
 
 def check(file: str, report: str) -> Verdict:
     """Whether the report is lawful for the file."""
     code: int = library.stm_check(*taken(file), *taken(report))
     if code < 0:
-        raise refused(code)
+        raise refused(code, file)
     return Verdict(code)
 
 
 def world(file: str, schedule: str) -> str:
     """What is seen of the schedule on the stepped world of the file."""
-    return _text(library.stm_world, *taken(file), *taken(schedule))
+    return _text(library.stm_world, file, *taken(schedule))
 
 
 def explore(file: str, states: int = 1_000_000) -> str:
     """What is found when every order of the file's tasks is seen, of at most so many states: else `MoreStates`."""
-    return _text(library.stm_explore, *taken(file), bounded(states, 32))
+    return _text(library.stm_explore, file, bounded(states, 32))
 
 
 def explore_to(file: str, end: int, states: int = 1_000_000) -> str:
     """The report of a run that comes to the end of this number, counted from 1 as `explore` lists them: or `NoEnd`."""
-    return _text(library.stm_explore_to, *taken(file), bounded(states, 32), bounded(end, 64))
+    return _text(library.stm_explore_to, file, bounded(states, 32), bounded(end, 64))
 
 
 def version() -> str:

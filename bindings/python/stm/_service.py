@@ -5,11 +5,14 @@ from __future__ import annotations
 import ctypes
 import re
 import struct
+import sys
+import time
 import weakref
+from threading import get_ident
 from types import TracebackType
-from typing import Any, Callable, Dict, List, NamedTuple, Optional, Sequence, Type
+from typing import Any, Callable, Dict, List, NamedTuple, Optional, Sequence, Type, Union
 
-from . import _asked, _declared
+from . import _declared
 from ._faults import (
     Broken,
     Closed,
@@ -27,9 +30,11 @@ from ._faults import (
 )
 from ._files import bounded, copied, refused, signed, taken
 from ._declared import Answer
+from ._held import Held
+from ._keeper import Keeper, OnChapter
 from ._library import library, word
-from ._started import Teller
 from ._table import Table
+from ._told import Room, RoomOfLoop, RoomOfThread, Teller, main
 
 _SAME = {
     _declared.OVERFLOW: Overflow,
@@ -45,28 +50,31 @@ _SAME = {
 
 # Longer than any process lives, in seconds: what is more is this.
 _LONGEST = 1e9
+_ask = library.stm_ask
+# Packs the begin of a request; and where its arguments are packed.
+_begin = struct.Struct(_declared.BEGIN).pack_into
+_ARGUMENTS = _declared.Request.arguments.offset
 
 
 class _Transaction(NamedTuple):
+    name: str
     number: int
     parameters: int
-    # Makes of its arguments what the library takes.
-    packed: Callable[[Sequence[int]], Any]
+    # Packs the arguments of a request for it.
+    pack: Callable[..., None]
+    # Where calls of it lie that are awaited.
+    rooms: List[RoomOfLoop]
 
-
-def _packing(parameters: int) -> Callable[[Sequence[int]], Any]:
-    """What makes an array of so many arguments. Each has to fit into 64 signed bits."""
-    array: Any = ctypes.c_int64 * parameters
-    pack = struct.Struct(f"{parameters}q").pack
-
-    def packed(arguments: Sequence[int]) -> Any:
+    def wrong(self, arguments: Sequence[int]) -> Exception:
+        """Why they could not be packed."""
+        if len(arguments) != self.parameters:
+            return WrongArguments(f"arguments of {self.name}: {self.parameters} wanted, {len(arguments)} given")
         try:
-            return array.from_buffer_copy(pack(*arguments))
-        except struct.error:
             # One of them is no such number, and `signed` says which.
-            return array(*map(signed, arguments))
-
-    return packed if parameters > 0 else lambda arguments: None
+            (ctypes.c_int64 * self.parameters)(*map(signed, arguments))
+        except Exception as why:
+            return why
+        return TypeError(f"arguments of {self.name}: numbers wanted")
 
 
 def _declared_by(word: str, text: str) -> List[str]:
@@ -88,24 +96,31 @@ class Service:
 
     A call gives its transaction a number of 64 signed bits for each of its parameters: `atomically("pay", [3, 5, 20])`;
     with more or fewer, `WrongArguments`. A call that waits lets other threads go on. Where the main thread waits for
-    others' commits, or for `on_chapter`, what a signal's handler raises, as Ctrl-C does, comes within a twentieth of a
-    second, and the call is given up, if it has not been entered just then. A handler that raises nothing ends no wait.
-    What a file says stays in memory until the process ends.
+    others' commits, or for `on_chapter`, what a signal's handler raises, as Ctrl-C does, comes at once, and the call is
+    given up, if it has not been entered just then. A handler that raises nothing ends no wait. What a file says stays
+    in memory until the process ends.
 
     `room`: how many tasks a chapter has room for beside those of the file; 0: as many as there can be. `checkpoint`: a
     journal of so many entries is followed by a checkpoint; 0: never. `observers`: how many workers there are, at most
-    32; 0: 4; a thread takes one while it observes or evaluates a long transaction. `on_chapter` is called with file and
-    report of each chapter that ends, one after another, by a thread whose call found the chapter full, and with no lock
-    held: others go on in the next chapter, and wait for it only where that is full too. It may make calls; one that
-    would have to wait for it raises `NoRoom`. Where it raises, it is told the chapter again: when the next chapter is
-    full, by each call that finds it so, which raises `NoRoom` from its error; and by `close`, once each time. Where an
-    interrupt, a `SystemExit` or a `MemoryError` stops it, that is raised by the call that it was called in, in place of
-    what the call answered. The last chapter does not end: ask for its file and report once the service is closed.
-    `Refused` where the file is refused, or there can't be so much room or so many observers.
+    32; 0: 4 where a transaction is long, else none; a thread takes one while it observes or evaluates a long
+    transaction beside what others commit, and where none is left does so under the lock. `on_chapter` is called with
+    file and report of each chapter that ends, one after another, by a thread of this package, and with no lock held:
+    others go on in the next chapter, and wait for it only where that is full too. It may make calls; one that would have
+    to wait for it raises `NoRoom`. Where it raises, it is told the chapter again: when the next chapter is full, by each
+    call that finds it so, which raises `NoRoom` from its error; and by `close`, once each time. What is no `Exception`, as a
+    `SystemExit`, and a `MemoryError` is raised itself too, by the next call of any thread before that does anything, or
+    by `close`. The last chapter does not end: ask for its file and report once the service is closed. A program that
+    ends waits until each chapter that ended was told once. `Refused` where the file is refused, or there can't be so
+    much room or so many observers.
 
     In a child that `os.fork` has made, a service of the parent is not called; to close it or to leave its `with` does
     nothing there.
     """
+
+    # Of one that could not be opened, and without `on_chapter`.
+    _held: Optional[Held] = None
+    _keeper: Optional[Keeper] = None
+    _stops: List[BaseException] = []
 
     def __init__(
         self,
@@ -119,48 +134,97 @@ class Service:
         self._text = text
         self._names: Optional[List[str]] = None
         self._found: Dict[str, _Transaction] = {}
-        self._keeper = keeper = None if on_chapter is None else _asked.Keeper(on_chapter)
-        asked = (_declared.Ended(), None) if keeper is None else keeper.options()
-        sizes = (bounded(room, 64), bounded(checkpoint, 32), bounded(observers, 32))
-        options = _declared.Options(*sizes, *asked)
+        self._on_chapter = None if on_chapter is None else OnChapter(on_chapter)
+        keeps = None if on_chapter is None else ctypes.cast(library.stm_takes_chapters, ctypes.c_void_p)
+        options = _declared.Options(bounded(room, 64), bounded(checkpoint, 32), bounded(observers, 32), keeps, None)
         self._at = ctypes.c_void_p()
         code = library.stm_service_open(*taken(text), ctypes.byref(options), ctypes.byref(self._at))
         if code != _declared.DONE:
-            raise refused(code)
-        # What C calls stays until C has let the service go, but not the keeper, which may have the service. At exit
-        # threads may be in calls still, so nothing is let go then.
-        self._teller = Teller(self._at, None if keeper is None else keeper.callback)
-        weakref.finalize(self, self._teller.let_go).atexit = False
+            raise refused(code, text)
+        self._held = Held(self._at)
+        self._teller = Teller(self._held)
+        if self._on_chapter is not None:
+            self._keeper = Keeper(self._held, self._on_chapter)
+            self._stops = self._on_chapter.stops
+
+    def __del__(self) -> None:
+        held, keeper = self._held, self._keeper
+        if held is None or sys.is_finalizing() or held.is_of_another_process():
+            return
+        if keeper is not None and self._on_chapter is not None:
+            keeper.drop(self._on_chapter)
+        held.drop(weakref.ref(self))
+        if keeper is not None:
+            keeper.has_dropped()
 
     def atomically(
         self, transaction: str, arguments: Sequence[int] = (), *, timeout: Optional[float] = None
     ) -> int:
         """Runs the transaction as one atomic step: what it returned; else a `Fault`. Where it retries the thread waits
         until a commit changed what it read, and it was entered; with a timeout, in seconds, at most so long, and then
-        `TimedOut`, also where it waits for another thread's `on_chapter`. A timeout of 0 is a try. The time in which
-        the thread calls `on_chapter` itself is not cut short."""
-        call = self._call(transaction, arguments)
-        if not _asked.is_ready:
-            _asked.be_ready()
-        if timeout is None:
-            return self._returned(library.stm_atomically(*call))
-        nanoseconds = int(min(max(timeout, 0.0), _LONGEST) * 1e9)
-        return self._returned(library.stm_atomically_within(*call, nanoseconds))
+        `TimedOut`, also where it waits for `on_chapter`. A timeout of 0 is a try."""
+        found, room = self._call(transaction, arguments)
+        if timeout is not None:
+            # What is no number is no time.
+            nanoseconds = int(min(max(timeout, 0.0), _LONGEST) * 1e9)
+            if nanoseconds == 0 or not self._waits_here():
+                return self._returned(library.stm_atomically_within(*self._given(found, room), nanoseconds), room)
+        elif not self._waits_here():
+            return self._returned(library.stm_atomically(*self._given(found, room)), room)
+        return self._returned(self._asked(room, timeout), room)
 
     def try_atomically(self, transaction: str, arguments: Sequence[int] = ()) -> int:
         """As `atomically`, but `Retries`, and nothing entered, where the transaction retries on the present values."""
-        return self._returned(library.stm_try_atomically(*self._call(transaction, arguments)))
+        found, room = self._call(transaction, arguments, _declared.TRIES)
+        if self._keeper is not None and self._waits_here():
+            return self._returned(self._asked(room, None), room)
+        return self._returned(library.stm_try_atomically(*self._given(found, room)), room)
 
     async def call(self, transaction: str, arguments: Sequence[int] = ()) -> int:
         """As `atomically`, awaited under asyncio: no thread waits for it, and any number of them may wait in one. To
-        cancel it is to give it up, so `asyncio.wait_for` limits its time; what was entered before stays entered. Where
-        the chapter is full `on_chapter` is called before the call waits."""
-        _, number, packed, count = self._call(transaction, arguments)
-        return self._returned(await self._teller.call(number, packed, count))
+        cancel it is to give it up, so `asyncio.wait_for` limits its time; what was entered before stays entered."""
+        if self._stops:
+            self._stop()
+        found = self._found.get(transaction) or self._transaction(transaction)
+        rooms = found.rooms
+        try:
+            room = rooms.pop()
+        except IndexError:
+            room = self._teller.room_of_loop(found.number, found.parameters, rooms)
+        try:
+            found.pack(room.request, _ARGUMENTS, *arguments)
+            code = _ask(self._at, room.at)
+            if room.request.told_count:
+                # What it has woken: this thread tells that, and so no other one is woken for it.
+                self._teller.tell_others(room)
+            answer = await self._answer(room, code) if code else room.answer
+        except BaseException as why:
+            self._teller.leave(room)
+            if isinstance(why, struct.error):
+                raise found.wrong(arguments) from None
+            raise
+        if code:
+            return self._returned(answer, room)
+        value: int = answer.value
+        rooms.append(room)
+        return value
+
+    async def _answer(self, room: RoomOfLoop, code: int) -> Answer:
+        """What became of a call that has not returned at once."""
+        keeper = self._keeper
+        while code == _declared.NOT_ENDED and keeper is not None:
+            if keeper.ident != get_ident():
+                await keeper.has_said(room.answer.value)
+            if not self._goes_on(keeper, room):
+                break
+            code = _ask(self._at, room.at)
+            self._teller.tell_others(room)
+        return await self._teller.told(room) if code == _declared.RUNNING else room.answer
 
     def observe(self, transaction: str, arguments: Sequence[int] = ()) -> int:
-        """What the transaction would return on one state, beside the commits; nothing is entered."""
-        return self._returned(library.stm_service_observe(*self._call(transaction, arguments)))
+        """What the transaction would return on one state; nothing is entered."""
+        found, room = self._call(transaction, arguments)
+        return self._returned(library.stm_service_observe(*self._given(found, room)), room)
 
     def parameters(self, transaction: str) -> int:
         """How many parameters a transaction has, at most 8."""
@@ -207,8 +271,11 @@ class Service:
 
     def close(self) -> None:
         """Every call that waits and every later one raises `Closed`. What was entered stays. It waits until
-        `on_chapter` has returned, and calls it once more for a chapter that was not kept."""
-        self._asks(library.stm_service_close)
+        `on_chapter` was called with each chapter that ended, and once more with one that it did not keep."""
+        library.stm_service_close(self._at)
+        if self._keeper is not None:
+            self._keeper.close()
+        self._stop()
 
     def __enter__(self) -> Service:
         return self
@@ -228,33 +295,86 @@ class Service:
             if number < 0:
                 raise Unknown(name)
             parameters = int(library.stm_service_parameters(self._at, number))
-            found = _Transaction(number, parameters, _packing(parameters))
+            found = _Transaction(name, number, parameters, struct.Struct(f"{parameters}q").pack_into, [])
             self._found[name] = found
         return found
 
-    def _call(self, name: str, arguments: Sequence[int]) -> tuple[ctypes.c_void_p, int, Any, int]:
-        """The service, the number of the transaction, and its arguments, as the library takes them."""
-        number, parameters, packed = self._found.get(name) or self._transaction(name)
-        if len(arguments) != parameters:
-            raise WrongArguments(f"arguments of {name}: {parameters} wanted, {len(arguments)} given")
-        return self._at, number, packed(arguments), parameters
+    def _call(
+        self, name: str, arguments: Sequence[int], way: int = _declared.WAITS
+    ) -> tuple[_Transaction, RoomOfThread]:
+        """The transaction, and a room in which a request for it lies."""
+        if self._stops:
+            self._stop()
+        found = self._found.get(name) or self._transaction(name)
+        room = self._teller.room_of_thread()
+        try:
+            _begin(room.request, 0, found.number, way, found.parameters)
+            found.pack(room.request, _ARGUMENTS, *arguments)
+        except struct.error:
+            self._teller.give_back(room)
+            raise found.wrong(arguments) from None
+        return found, room
 
-    def _returned(self, answer: Answer) -> int:
-        if _asked.stops:
-            _asked.go_on()
+    def _stop(self) -> None:
+        """Raises what has stopped `on_chapter`, once."""
+        try:
+            error = self._stops.pop()
+        except IndexError:
+            return
+        raise error
+
+    def _given(self, found: _Transaction, room: RoomOfThread) -> tuple[ctypes.c_void_p, int, ctypes.c_void_p, int]:
+        """A call as the library takes it."""
+        return self._at, found.number, room.given, found.parameters
+
+    def _waits_here(self) -> bool:
+        """Whether the thread must not wait in the library: signals are handled in it, or `on_chapter` is called."""
+        thread, keeper = get_ident(), self._keeper
+        return thread == main.ident or keeper is not None and thread == keeper.ident
+
+    def _asked(self, room: RoomOfThread, timeout: Optional[float]) -> Answer:
+        """What became of the call that lies there, which is not waited for in the library."""
+        until, keeper, answer = None if timeout is None else time.monotonic() + timeout, self._keeper, None
+        try:
+            while answer is None:
+                code = _ask(self._at, room.at)
+                if code == _declared.RUNNING:
+                    answer = self._teller.wait(room, until) or Answer(ticket=-1, code=_declared.TIMED_OUT)
+                elif code != _declared.NOT_ENDED or keeper is None:
+                    answer = room.answer
+                elif keeper.ident != get_ident() and not keeper.wait(room.answer.value, until):
+                    answer = Answer(ticket=-1, code=_declared.TIMED_OUT)
+                elif not self._goes_on(keeper, room):
+                    answer = room.answer
+        finally:
+            if answer is None:
+                self._teller.leave(room)
+        return answer
+
+    def _goes_on(self, keeper: Keeper, room: Room) -> bool:
+        """Whether a call that found the chapter full is asked for again, when the keeper has said how it went with the
+        one before; else there is no room for it, as for one that would wait for itself."""
+        if keeper.ident != get_ident() and (keeper.said <= room.answer.value or self._failed() is None):
+            return True
+        room.answer.code = _declared.NO_ROOM
+        return False
+
+    def _failed(self) -> Optional[BaseException]:
+        """Why the chapter that was told last was not kept."""
+        return None if self._on_chapter is None else self._on_chapter.failed
+
+    def _returned(self, answer: Answer, room: Union[RoomOfThread, RoomOfLoop]) -> int:
         if answer.code == _declared.DONE:
             value: int = answer.value
+            self._teller.give_back(room)
             return value
-        _asked.begin_again()
-        keeper = self._keeper
-        raise self._fault(answer) from (keeper.failed() if keeper and answer.code == _declared.NO_ROOM else None)
+        fault = self._fault(answer)
+        self._teller.give_back(room)
+        raise fault from (self._failed() if isinstance(fault, NoRoom) else None)
 
     def _asks(self, call: Callable[..., int], *given: object) -> int:
-        """What the library answers to a question; to close is one in which `on_chapter` may be called."""
-        told = call(self._at, *given)
-        if _asked.stops:
-            _asked.go_on()
-        return told
+        """What the library answers to a question."""
+        return call(self._at, *given)
 
     def _fault(self, answer: Answer) -> Fault:
         ticket = answer.ticket if answer.entry else -1

@@ -1,6 +1,7 @@
 """Whole files, and where the library is found."""
 
 import os
+import pickle
 import shutil
 import subprocess
 import sys
@@ -44,8 +45,49 @@ class Files(unittest.TestCase):
             with self.assertRaises(stm.Refused) as raised:
                 call()
             self.assertEqual((raised.exception.word, raised.exception.code), ("file: shape", -3))
-        self.assertRaises(stm.Refused, stm.explore, FILE, 0)
         self.assertRaises(ValueError, stm.run, FILE, -1)
+
+    def test_where_and_why_files_are_refused(self):
+        wrong = "(var x 1)\n(tx t (set x (plus x 1)) x)"
+        head = "line 2, column 15: F3 Shape: "
+        for call in (
+            lambda: stm.Service(wrong),
+            lambda: stm.run(wrong),
+            lambda: stm.check(wrong, ""),
+            lambda: stm.world(wrong, "begin 0\n"),
+            lambda: stm.explore(wrong),
+            lambda: stm.explore_to(wrong, 1),
+        ):
+            with self.assertRaises(stm.Refused) as raised:
+                call()
+            told, alone = raised.exception, stm.explain(wrong)
+            self.assertEqual((told.code, told.word, told.line, told.column), (-3, "file: shape", 2, 15))
+            self.assertTrue(str(told).startswith(head) and str(told).endswith("here stands plus"), str(told))
+            self.assertEqual((alone.code, alone.word, alone.line, alone.column), (-3, "file: shape", 2, 15))
+            self.assertEqual(str(alone), str(told))
+            copy = pickle.loads(pickle.dumps(told))
+            self.assertEqual((copy.code, copy.word, copy.line, str(copy)), (-3, "file: shape", 2, str(told)))
+
+    def test_each_kind_is_explained(self):
+        for text, word, line, column in [
+            (" " * 1_048_577, "file: too long", 1, 1_048_577),
+            ("; one\n; \u00e9", "file: bad byte", 2, 3),
+            ("(var x", "file: shape", 1, 7),
+            ("\n(tx t (skip)\n  x)", "file: name", 3, 3),
+            ("(tx t (repeat 1001 (skip)) 0)", "file: limit", 1, 15),
+            ("(stm 2)(var x 1)(always low (lt x 1))", "file: broken condition", 1, 25),
+        ]:
+            told = stm.explain(text)
+            self.assertEqual((told.word, told.line, told.column), (word, line, column))
+            self.assertTrue(str(told).startswith(f"line {line}, column {column}: F"))
+        self.assertEqual((stm.explain(FILE), stm.explain("")), (None, None))
+
+    def test_what_is_no_file_is_not_explained(self):
+        for call in (lambda: stm.world(FILE, "begin 9\n"), lambda: stm.explore(FILE, 0)):
+            with self.assertRaises(stm.Refused) as raised:
+                call()
+            told = raised.exception
+            self.assertEqual((told.line, told.column, str(told)), (None, None, told.word))
 
 
 class Finding(unittest.TestCase):

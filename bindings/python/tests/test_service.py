@@ -3,11 +3,11 @@
 import gc
 import os
 import threading
-import time
 import unittest
 import weakref
 
 import stm
+from helping import LONG, until, until_parked
 from stm import _service
 
 TEXT = """(stm 2) (var n 0) (var out 0) (var most 9223372036854775807)
@@ -21,7 +21,6 @@ TEXT = """(stm 2) (var n 0) (var out 0) (var most 9223372036854775807)
 (tx cut (set n (div n 0)) 0)
 (tx over (set out 3) 0)
 (tx wait (if (lt n 10) (retry) (skip)) n)"""
-LONG = 60
 
 
 def in_threads(count, work):
@@ -49,11 +48,6 @@ def resident():
     """How many pages of memory the process has."""
     with open("/proc/self/statm") as told:
         return int(told.read().split()[1])
-
-
-def until_parked(service):
-    while "\nparked " not in service.report():
-        time.sleep(0.001)
 
 
 def entered_at(fault):
@@ -147,7 +141,7 @@ class Calls(unittest.TestCase):
         pairs = []
         with stm.Service(TEXT, room=500, on_chapter=lambda *pair: pairs.append(pair)) as service:
             in_threads(4, lambda: [service.atomically("inc") for _ in range(500)])
-            self.assertEqual((service.entered, service.chapter), (2000, len(pairs)))
+        self.assertEqual((service.entered, service.chapter), (2000, len(pairs)))
         self.assertGreaterEqual(len(pairs), 3)
         self.assertEqual(self.entries(service, pairs), 2000)
 
@@ -208,49 +202,6 @@ class Calls(unittest.TestCase):
         service.close()
         self.assertEqual((service.value("n"), service.entered), (1, 1))
 
-    def test_a_chapter_that_is_not_kept(self):
-        tries = []
-
-        def keep(_file, _report):
-            tries.append(1)
-            if len(tries) < 3:
-                raise OSError("no disk")
-
-        with stm.Service(TEXT, room=3, on_chapter=keep) as service:
-            # The next chapter has room for three of them.
-            self.assertEqual([service.atomically("inc") for _ in range(6)], [1, 2, 3, 4, 5, 6])
-            self.assertEqual((len(tries), service.chapter), (1, 1))
-            with self.assertRaises(stm.NoRoom) as raised:
-                service.atomically("inc")
-            at = entered_at(raised.exception)
-            self.assertEqual((str(raised.exception.__cause__), at), ("no disk", NOT_ENTERED))
-            self.assertEqual((len(tries), service.chapter), (2, 1))
-            self.assertEqual((service.atomically("inc"), len(tries), service.chapter), (7, 4, 2))
-
-    def test_close_tells_once_more_what_was_not_kept(self):
-        tries = []
-
-        def keep(_file, report):
-            tries.append(report.count("\nentry "))
-            if len(tries) < 4:
-                raise OSError("no disk")
-
-        service = stm.Service(TEXT, room=1, on_chapter=keep)
-        self.assertEqual([service.atomically("inc"), service.atomically("inc")], [1, 2])
-        for times in (2, 3, 4, 4):
-            service.close()
-            self.assertEqual(len(tries), times)
-        self.assertEqual((tries, service.chapter), ([1, 1, 1, 1], 1))
-
-    def test_an_interrupt_of_the_keeper_stays_one(self):
-        def keep(_file, _report):
-            raise KeyboardInterrupt
-
-        service = stm.Service(TEXT, room=1, on_chapter=keep)
-        service.atomically("inc")
-        self.assertRaises(KeyboardInterrupt, service.atomically, "inc")
-        self.assertRaises(KeyboardInterrupt, service.close)
-
     def test_all_room_is_taken_by_calls_that_wait(self):
         with stm.Service(TEXT, room=1) as service:
 
@@ -277,7 +228,8 @@ class Calls(unittest.TestCase):
         ]:
             with self.assertRaises(stm.Refused) as raised:
                 stm.Service(text)
-            self.assertEqual((raised.exception.word, str(raised.exception)), (word, word))
+            told = raised.exception
+            self.assertEqual((told.word, told.line, str(told)), (word, 1, str(stm.explain(text))))
         for more in ({"room": 70_000}, {"observers": 33}, {"room": -1}, {"checkpoint": -1}, {"observers": 1 << 32}):
             self.assertRaises(ValueError, stm.Service, TEXT, **more)
         stm.Service("").close()
@@ -312,7 +264,8 @@ class Calls(unittest.TestCase):
         del kept
         for _ in range(3):
             service.atomically("inc")
-        self.assertEqual(len(seen()), 2)
+        until(lambda: len(seen()) == 2)
+        service.close()
         del service
         gc.collect()
         self.assertIsNone(seen())

@@ -7,6 +7,7 @@ import unittest
 import weakref
 
 import stm
+from helping import until
 
 TEXT = """(stm 3) (var box 0) (var d 0) (always low (le box 1000000))
     (tx put (k) (set box (add box k)) box)
@@ -70,7 +71,9 @@ class Awaited(unittest.IsolatedAsyncioTestCase):
         self.assertEqual(await self.service.call("put", [5]), 5)
         await asyncio.sleep(0.01)
         self.assertEqual((self.service.value("box"), self.service.entered), (5, 1))
-        self.assertEqual(self.service._teller._waiting, {})
+        teller = self.service._teller
+        kept = [room for found in self.service._found.values() for room in found.rooms]
+        self.assertEqual(len(teller._rooms), len(kept))
 
     async def test_closed_while_some_wait(self):
         calls = [asyncio.ensure_future(self.service.call("get", [1])) for _ in range(10)]
@@ -91,14 +94,12 @@ class Ends(unittest.TestCase):
         async def waits(service):
             calls = [asyncio.ensure_future(service.call("wait", [i])) for i in range(count)]
             await asyncio.sleep(0)
-            threads = threading.active_count()
             self.assertEqual(await service.call("put", [1]), 1)
             self.assertEqual(await asyncio.gather(*calls), list(range(count)))
-            return threads
+            return service._held._threads
 
-        before = threading.active_count()
         with stm.Service(TEXT) as service:
-            self.assertEqual(asyncio.run(waits(service)), before + 1)
+            self.assertEqual(asyncio.run(waits(service)), 1)
             self.assertEqual(service.entered, count + 1)
 
     def test_several_loops(self):
@@ -142,17 +143,22 @@ class Ends(unittest.TestCase):
         self.assertEqual(sum(report.count("\nentry ") for _, report in pairs), 101)
 
     def test_it_goes_with_its_owner(self):
+        async def waits(service):
+            call = asyncio.ensure_future(service.call("get", [1]))
+            await asyncio.sleep(0.01)
+            await service.call("put", [1])
+            return await call
+
         for closes in (False, True):
             service = stm.Service(TEXT)
-            self.assertEqual(asyncio.run(service.call("put", [1])), 1)
+            self.assertEqual(asyncio.run(waits(service)), 1)
             if closes:
                 service.close()
-            gone, thread = weakref.ref(service), service._teller._thread
+            gone, held = weakref.ref(service), service._held
             del service
             gc.collect()
             self.assertIsNone(gone())
-            thread.join(60)
-            self.assertFalse(thread.is_alive())
+            until(held.is_free)
 
 
 if __name__ == "__main__":

@@ -1,5 +1,7 @@
 //! What the calls answer.
 
+use crate::error::Fault;
+
 /// The number of a task that stays its own through all chapters of a store. The tasks of the program have 0, 1, ..
 /// in the order of the runs, and each task that is submitted or called has the next one.
 #[derive(Clone, Copy, Debug, PartialEq, Eq, PartialOrd, Ord, Hash)]
@@ -68,11 +70,44 @@ pub enum Outcome {
     Outside,
 }
 
+impl Outcome {
+    /// What was returned; else the fault that says how it ended.
+    pub fn returned(self) -> Result<i64, Fault> {
+        match self {
+            Outcome::Returned(value) => Ok(value),
+            Outcome::Thrown(value) => Err(Fault::Thrown(value)),
+            Outcome::Overflow => Err(Fault::Overflow),
+            Outcome::DivideByZero => Err(Fault::DivideByZero),
+            Outcome::Broken(condition) => Err(Fault::Broken(condition)),
+            Outcome::Outside => Err(Fault::Outside),
+        }
+    }
+}
+
 /// The entry of a task: its number in the chapter, and how the transaction ended.
 #[derive(Clone, Copy, Debug, PartialEq, Eq)]
 pub struct Entered {
     pub number: u64,
     pub outcome: Outcome,
+}
+
+/// A call of a service that was entered: its ticket, which no other call has; the chapter in which it was entered, from
+/// 0 on, and the number of its entry there, from 1 on, by which it is found in the reports; the place of the entry in
+/// the history of all that became of calls, from 0 on, by which calls are put in order; and how the transaction ended.
+#[derive(Clone, Copy, Debug, PartialEq, Eq)]
+pub struct Receipt {
+    pub ticket: Ticket,
+    pub chapter: u64,
+    pub entry: u64,
+    pub place: u64,
+    pub outcome: Outcome,
+}
+
+impl Receipt {
+    /// What was returned; else the fault that says how it ended.
+    pub fn returned(self) -> Result<i64, Fault> {
+        self.outcome.returned()
+    }
 }
 
 /// How a turn ended.

@@ -12,10 +12,7 @@ pub struct Var(String);
 
 /// A declared transaction.
 #[derive(Clone, Debug)]
-pub struct Tx {
-    name: String,
-    parameters: usize,
-}
+pub struct Tx(String);
 
 /// A declared table: cells, which are numbered from 0. A transaction with a number of no cell ends `Outside`.
 #[derive(Clone, Debug)]
@@ -234,8 +231,8 @@ pub fn throw(value: impl Into<Expr>) -> Stmt {
 
 /// The declarations of a program.
 ///
-/// A name is a letter, and then letters, digits and `_`. Where another word was to be declared, `text` and
-/// `program` answer `Name`.
+/// A name is a letter, and then letters, digits and `_`. Where another word was to be declared, `text` and `program`
+/// answer `WrongName`. Of what else is wrong `program` and `service` tell the line and the column in `text`.
 ///
 /// ```
 /// use stm::{le, lt, seq, set, var, when, retry, skip, Declare};
@@ -266,7 +263,9 @@ pub struct Declare {
     always: String,
     txs: Vec<Declared>,
     runs: String,
-    has_wrong_name: bool,
+    has_arguments: bool,
+    // The first word that is none.
+    wrong_name: Option<String>,
 }
 
 /// A transaction's name and parameters; and its body and result, as they are spelled.
@@ -291,12 +290,11 @@ impl Declare {
 
     /// The word where it is a name; else none, with which nothing is declared here nor anywhere else.
     fn named(&mut self, word: &str) -> String {
-        self.has_wrong_name |= !is_name(word);
         if is_name(word) {
-            word.to_string()
-        } else {
-            String::new()
+            return word.to_string();
         }
+        self.wrong_name.get_or_insert_with(|| word.to_string());
+        String::new()
     }
 
     /// A variable with its initial value.
@@ -363,7 +361,7 @@ impl Declare {
         let (body, result) = make(parameters.clone().map(Param));
         let program = format!("{} {}", body.0, result.into().0);
         self.txs.push(Declared { name: name.clone(), parameters: parameters.to_vec(), program });
-        Tx { name, parameters: N }
+        Tx(name)
     }
 
     /// So many tasks that run the transaction, which has no parameters.
@@ -371,21 +369,22 @@ impl Declare {
         self.run_with(tx, times, &[]);
     }
 
-    /// So many tasks that run the transaction, each with these arguments: `Name` where it has another number of
-    /// parameters.
+    /// So many tasks that run the transaction, each with these arguments. With another number of them than it has
+    /// parameters the program is refused (`FileFault::Name`).
     pub fn run_with(&mut self, tx: &Tx, times: u32, arguments: &[i64]) {
-        self.has_wrong_name |= arguments.len() != tx.parameters;
+        self.has_arguments |= !arguments.is_empty();
         let given: String = arguments.iter().map(|argument| format!(" {argument}")).collect();
-        let _ = writeln!(self.runs, "(run {} {times}{given})", tx.name);
+        let _ = writeln!(self.runs, "(run {} {times}{given})", tx.0);
     }
 
-    /// The text of a file, of form 3 where there is a table or a transaction has parameters, else of form 2; `Name`
+    /// The text of a file, of form 3 where there is a table, a parameter or an argument, else of form 2; `WrongName`
     /// where a word was to be declared that is no name.
     pub fn text(&self) -> Result<String, Error> {
-        if self.has_wrong_name {
-            return Err(Error::Name);
+        if let Some(word) = &self.wrong_name {
+            return Err(Error::WrongName(word.clone()));
         }
-        let lists = !self.tables.is_empty() || self.txs.iter().any(|tx| !tx.parameters.is_empty());
+        let has_parameters = self.txs.iter().any(|tx| !tx.parameters.is_empty());
+        let lists = has_parameters || self.has_arguments || !self.tables.is_empty();
         let mut txs = String::new();
         for Declared { name, parameters, program } in &self.txs {
             let list = if lists { format!("({}) ", parameters.join(" ")) } else { String::new() };
@@ -395,12 +394,24 @@ impl Declare {
         Ok(format!("(stm {form})\n{}{}{}{txs}{}", self.vars, self.tables, self.always, self.runs))
     }
 
-    /// The program, or why the file is refused.
+    /// The program, or where and why its text is refused.
+    ///
+    /// ```
+    /// use stm::{set, var, Declare, Error, FileFault};
+    ///
+    /// let (mut one, mut other) = (Declare::new(), Declare::new());
+    /// let (x, y) = (one.var("x", 0), other.var("y", 0));
+    /// one.tx("copy", set(&x, var(&y)), &x);
+    /// let refused = one.program().map(|_| ());
+    /// assert!(matches!(refused, Err(Error::Refused { fault: FileFault::Name, line: 3, column: 17, .. })));
+    /// assert_eq!(one.text()?.lines().nth(2), Some("(tx copy (set x y) x)"));
+    /// # Ok::<(), stm::Error>(())
+    /// ```
     pub fn program(&self) -> Result<Program, Error> {
         Program::read(&self.text()?)
     }
 
-    /// A service of the program, or why the file is refused.
+    /// A service of the program, or where and why its text is refused.
     ///
     /// ```
     /// use stm::{retry, set, var, when, Declare};

@@ -3,22 +3,25 @@
 use std::fmt;
 
 /// Why a call answered nothing. Nothing changed then, unless the call says more.
-#[derive(Clone, Copy, Debug, PartialEq, Eq)]
+#[derive(Clone, Debug, PartialEq, Eq)]
 pub enum Error {
-    /// The file has more than 1,048,576 bytes, or begins with `(stm 3)` and has more than 67,108,864.
+    /// The file is refused. Its first fault stands at this line and column, both from 1, and columns in bytes; of a
+    /// declared program in what `Declare::text` spells. The text is the line that `stm explain` prints.
+    ///
+    /// ```
+    /// use stm::{Error, FileFault, Program};
+    ///
+    /// let Err(error) = Program::read("(var x 1)\n(tx t (set y 1) x)") else { panic!("it is refused") };
+    /// assert!(matches!(error, Error::Refused { fault: FileFault::Name, line: 2, column: 12, .. }));
+    /// let told = "line 2, column 12: F4 Name: no variable of this name is declared; here stands y; did you mean x?";
+    /// assert_eq!(error.to_string(), told);
+    /// ```
+    Refused { fault: FileFault, line: usize, column: usize, text: String },
+    /// This word was to be declared, and is no name.
+    WrongName(String),
+    /// The file as it has become has more bytes than a file may have.
     TooLong,
-    /// A byte is not one of those that a file may have.
-    BadByte,
-    /// The file is not of the grammar, or has more than 32 parentheses open at a time: a declared one may nest
-    /// too deep. `sum` of many parts nests as little as can be.
-    Shape,
-    /// A name is declared twice, or not at all, or has not the form of one.
-    Name,
-    /// One of the limits of a file is passed.
-    Limit,
-    /// A standing condition is not true of the initial values.
-    Broken,
-    /// A growth was refused.
+    /// A growth was refused; also where a file was refused, and it could not be said why.
     Memory,
     /// The program has no transaction of this number.
     UnknownTransaction(u32),
@@ -58,6 +61,24 @@ pub enum Error {
     OtherProgram,
 }
 
+/// Why a file is refused: what its first fault is.
+#[derive(Clone, Copy, Debug, PartialEq, Eq)]
+pub enum FileFault {
+    /// The file has more than 1,048,576 bytes, or begins with `(stm 3)` and has more than 67,108,864.
+    TooLong,
+    /// A byte is not one of those that a file may have.
+    BadByte,
+    /// The file is not of the grammar, or has more than 32 parentheses open at a time: a declared one may nest
+    /// too deep. `sum` of many parts nests as little as can be.
+    Shape,
+    /// A name is declared twice, or not at all; or a run has a wrong number of arguments.
+    Name,
+    /// One of the limits of a file is passed.
+    Limit,
+    /// A standing condition is not true of the initial values.
+    Broken,
+}
+
 /// Why a schedule is refused.
 #[derive(Clone, Copy, Debug, PartialEq, Eq)]
 pub enum ScheduleFault {
@@ -84,12 +105,9 @@ impl fmt::Display for Error {
             Error::WrongArguments { transaction, parameters, given } => {
                 return wrong_arguments(out, *transaction, *parameters, *given)
             }
+            Error::Refused { text, .. } => text,
+            Error::WrongName(word) => return write!(out, "{word:?} is no name"),
             Error::TooLong => "the file is too long",
-            Error::BadByte => "the file has a byte that is not allowed",
-            Error::Shape => "the file is not of the grammar",
-            Error::Name => "a name of the file is wrong",
-            Error::Limit => "the file passes a limit",
-            Error::Broken => "a standing condition is not true of the initial values",
             Error::Memory => "out of memory",
             Error::Gone => "there is no such task",
             Error::NotReady => "no such task is ready",

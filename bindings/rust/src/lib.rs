@@ -31,15 +31,15 @@ mod raw;
 mod service;
 mod store;
 
-pub use answers::{Answer, Arguments, End, Entered, Job, Outcome, Standing, Ticket, Way};
+pub use answers::{Answer, Arguments, End, Entered, Job, Outcome, Receipt, Standing, Ticket, Way};
 pub use call::Call;
 pub use declare::{
     and, div, eq, int, le, lt, not, or, or_else, param, rem, repeat, retry, seq, set, skip, sum, throw, var,
     when, Cond, Declare, Expr, Param, Stmt, Table, Tx, Var,
 };
-pub use error::{Error, Fault, NotKept, ScheduleFault};
+pub use error::{Error, Fault, FileFault, NotKept, ScheduleFault};
 pub use raw::{Counts, Part, Verdict};
-pub use service::{Service, ServiceOptions};
+pub use service::{Receipts, Service, ServiceOptions};
 pub use store::{run, run_with, Program, RunOptions, Store, Worker};
 
 /// All tasks of a file, one after another on this thread: its report. A journal of `checkpoint`
@@ -52,6 +52,18 @@ pub use store::{run, run_with, Program, RunOptions, Store, Worker};
 /// ```
 pub fn run_one(file: &str, checkpoint: u32) -> Result<String, Error> {
     raw::run_one(file.as_bytes(), checkpoint)
+}
+
+/// Whether a file is read; or where and why it is refused (`Error::Refused`), as each call tells that reads one.
+///
+/// ```
+/// assert_eq!(stm::explain("(var x 1)"), Ok(()));
+/// let Err(error) = stm::explain("(var x)") else { panic!("it is refused") };
+/// let told = "line 1, column 7: F3 Shape: the initial value is wanted, an INT; here stands )";
+/// assert_eq!(error.to_string(), told);
+/// ```
+pub fn explain(file: &str) -> Result<(), Error> {
+    raw::explain(file.as_bytes())
 }
 
 /// Whether a report is lawful for a file.

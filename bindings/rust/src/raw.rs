@@ -5,13 +5,16 @@
 
 mod calls;
 mod code;
+mod explaining;
 mod service;
 
 pub use calls::RawCall;
+pub use explaining::explain;
 pub use service::{Keep, RawService};
 
 use crate::answers::{Answer, Arguments, End, Entered, Job, Outcome, Standing, Ticket, Way};
 use crate::error::{Error, ScheduleFault};
+use explaining::refused;
 use std::ffi::c_void;
 use std::sync::Arc;
 
@@ -179,15 +182,11 @@ pub enum Part {
     Parked,
 }
 
+/// Why a call answers this code, that has read no file: it may have made one that is too long.
 fn error_of(code: i32) -> Error {
     match code {
         code::FILE_TOO_LONG => Error::TooLong,
-        code::FILE_BAD_BYTE => Error::BadByte,
-        code::FILE_SHAPE => Error::Shape,
-        code::FILE_NAME => Error::Name,
-        code::FILE_LIMIT => Error::Limit,
         code::MEMORY => Error::Memory,
-        code::FILE_BROKEN => Error::Broken,
         code::NO_WORKER => Error::NoWorker,
         code::NO_ROOM => Error::NoRoom,
         code::GONE => Error::Gone,
@@ -211,7 +210,16 @@ fn error_of(code: i32) -> Error {
 }
 
 /// Calls with a room, and again with one that is long enough where the first was not.
-fn text(mut call: impl FnMut(&mut [u8], &mut usize) -> i32) -> Result<String, Error> {
+fn text(call: impl FnMut(&mut [u8], &mut usize) -> i32) -> Result<String, Error> {
+    text_or_code(call).map_err(error_of)
+}
+
+/// As `text`, by a call that reads the file.
+fn text_of(file: &[u8], call: impl FnMut(&mut [u8], &mut usize) -> i32) -> Result<String, Error> {
+    text_or_code(call).map_err(|code| refused(file, code))
+}
+
+fn text_or_code(mut call: impl FnMut(&mut [u8], &mut usize) -> i32) -> Result<String, i32> {
     let mut room = vec![0u8; 4096];
     loop {
         let mut wanted = 0;
@@ -221,13 +229,13 @@ fn text(mut call: impl FnMut(&mut [u8], &mut usize) -> i32) -> Result<String, Er
                 return Ok(String::from_utf8(room).expect("the library's texts are ASCII"));
             }
             code::SHORT => room.resize(wanted, 0),
-            code => return Err(error_of(code)),
+            code => return Err(code),
         }
     }
 }
 
 pub fn run_one(file: &[u8], checkpoint: u32) -> Result<String, Error> {
-    text(|room, wanted| {
+    text_of(file, |room, wanted| {
         // SAFETY: pointers and lengths of slices that are borrowed for the call; it requires nothing.
         unsafe { stm_run_one(file.as_ptr(), file.len(), checkpoint, room.as_mut_ptr(), room.len(), wanted) }
     })
@@ -243,12 +251,12 @@ pub fn check(file: &[u8], report: &[u8]) -> Result<Verdict, Error> {
         code::BAD_PRESENT => Ok(Verdict::Bad(Part::Present)),
         code::BAD_TASKS => Ok(Verdict::Bad(Part::Tasks)),
         code::BAD_PARKED => Ok(Verdict::Bad(Part::Parked)),
-        code => Err(error_of(code)),
+        code => Err(refused(file, code)),
     }
 }
 
 pub fn world(file: &[u8], schedule: &[u8]) -> Result<String, Error> {
-    text(|room, wanted| {
+    text_of(file, |room, wanted| {
         // SAFETY: as `run_one`.
         unsafe {
             stm_world(
@@ -265,14 +273,14 @@ pub fn world(file: &[u8], schedule: &[u8]) -> Result<String, Error> {
 }
 
 pub fn explore(file: &[u8], states: u32) -> Result<String, Error> {
-    text(|room, wanted| {
+    text_of(file, |room, wanted| {
         // SAFETY: as `run_one`.
         unsafe { stm_explore(file.as_ptr(), file.len(), states, room.as_mut_ptr(), room.len(), wanted) }
     })
 }
 
 pub fn explore_to(file: &[u8], states: u32, end: usize) -> Result<String, Error> {
-    text(|room, wanted| {
+    text_of(file, |room, wanted| {
         // SAFETY: as `run_one`.
         unsafe {
             stm_explore_to(file.as_ptr(), file.len(), states, end, room.as_mut_ptr(), room.len(), wanted)
@@ -374,7 +382,7 @@ impl RawProgram {
         // SAFETY: a slice as above; `out` is an empty handle, and holds a program where the answer is 0.
         match unsafe { stm_read(file.as_ptr(), file.len(), &mut out) } {
             code::DONE => Ok(RawProgram(out)),
-            code => Err(error_of(code)),
+            code => Err(refused(file, code)),
         }
     }
 

@@ -1,5 +1,6 @@
 //! Calls from any thread.
 
+use crate::answers::Receipt;
 use crate::call::Call;
 use crate::error::{Error, Fault, NotKept};
 use crate::raw::{Keep, RawService};
@@ -53,9 +54,9 @@ impl ServiceOptions {
         ServiceOptions { checkpoint, ..self }
     }
 
-    /// How many workers there are, at most 32 (`TooManyWorkers`); 0: 4. A thread takes one while it observes, or
-    /// evaluates a long transaction beside what others commit. Who observes waits for one; where none is left, a long
-    /// transaction is evaluated under the lock.
+    /// How many workers there are, at most 32 (`TooManyWorkers`); 0: 4 where a transaction is long, else none. A thread
+    /// takes one while it observes, or evaluates a long transaction, beside what others commit; where none is left it
+    /// does so under the lock. Where there are workers each commit costs more.
     pub fn observers(self, observers: u32) -> ServiceOptions {
         ServiceOptions { observers, ..self }
     }
@@ -121,12 +122,12 @@ impl Service {
     /// in their order: `&[]` where it has none. Where it retries the thread waits until a commit changed what it read,
     /// and it was entered.
     pub fn atomically(&self, transaction: u32, arguments: &[i64]) -> Result<i64, Fault> {
-        self.raw.atomically(transaction, arguments)
+        self.raw.atomically(transaction, arguments)?.returned()
     }
 
     /// As `atomically`; `Retries`, and nothing was entered, where the transaction retries on the present values.
     pub fn try_atomically(&self, transaction: u32, arguments: &[i64]) -> Result<i64, Fault> {
-        self.raw.try_atomically(transaction, arguments)
+        self.raw.try_atomically(transaction, arguments)?.returned()
     }
 
     /// As `atomically`; `TimedOut` after the time, also where a long transaction is evaluated until then. It had no
@@ -146,8 +147,7 @@ impl Service {
         arguments: &[i64],
         time: Duration,
     ) -> Result<i64, Fault> {
-        let nanoseconds = u64::try_from(time.as_nanos()).unwrap_or(u64::MAX);
-        self.raw.atomically_within(transaction, arguments, nanoseconds)
+        self.receipts().atomically_within(transaction, arguments, time)?.returned()
     }
 
     /// The call as a future of what `atomically` answers, over any executor: no thread waits for it. It is made when it
@@ -170,10 +170,27 @@ impl Service {
     /// # Ok::<(), stm::Error>(())
     /// ```
     pub fn call(&self, transaction: u32, arguments: &[i64]) -> Call<'_> {
-        Call::new(&self.raw, transaction, arguments)
+        Call::new(&self.raw, transaction, arguments, Receipt::returned)
     }
 
-    /// How the transaction would end with these arguments on one state, beside the commits; nothing is entered.
+    /// The same calls, with all that is answered: also the ticket, the chapter, the number of the entry and its place.
+    ///
+    /// ```
+    /// use stm::{Outcome, Receipt, Ticket};
+    ///
+    /// let bank = stm::Service::open("(stm 3) (var here 9) (tx pay (k) (set here (sub here k)) here)")?;
+    /// assert_eq!(bank.atomically(0, &[2]), Ok(7));
+    /// let outcome = Outcome::Returned(4);
+    /// let receipt = Receipt { ticket: Ticket(1), chapter: 0, entry: 2, place: 1, outcome };
+    /// assert_eq!(bank.receipts().atomically(0, &[3]), Ok(receipt));
+    /// assert_eq!(receipt.returned(), Ok(4));
+    /// # Ok::<(), stm::Error>(())
+    /// ```
+    pub fn receipts(&self) -> Receipts<'_> {
+        Receipts { raw: &self.raw }
+    }
+
+    /// How the transaction would end with these arguments on one state; nothing is entered.
     ///
     /// ```
     /// let service = stm::Service::open("(var x 5) (tx inc (set x (add x 1)) x)")?;
@@ -267,5 +284,40 @@ impl Service {
     /// ```
     pub fn close(&self) {
         self.raw.close()
+    }
+}
+
+/// The calls of a service that are answered by a receipt: `Service::receipts`. It is `Ok` where the call was entered,
+/// also where the transaction did not return; a fault is that it was not, and never will be.
+#[derive(Clone, Copy)]
+pub struct Receipts<'a> {
+    raw: &'a RawService,
+}
+
+impl<'a> Receipts<'a> {
+    /// As `Service::atomically`.
+    pub fn atomically(self, transaction: u32, arguments: &[i64]) -> Result<Receipt, Fault> {
+        self.raw.atomically(transaction, arguments)
+    }
+
+    /// As `Service::try_atomically`.
+    pub fn try_atomically(self, transaction: u32, arguments: &[i64]) -> Result<Receipt, Fault> {
+        self.raw.try_atomically(transaction, arguments)
+    }
+
+    /// As `Service::atomically_within`.
+    pub fn atomically_within(
+        self,
+        transaction: u32,
+        arguments: &[i64],
+        time: Duration,
+    ) -> Result<Receipt, Fault> {
+        let nanoseconds = u64::try_from(time.as_nanos()).unwrap_or(u64::MAX);
+        self.raw.atomically_within(transaction, arguments, nanoseconds)
+    }
+
+    /// As `Service::call`.
+    pub fn call(self, transaction: u32, arguments: &[i64]) -> Call<'a, Receipt> {
+        Call::new(self.raw, transaction, arguments, Ok)
     }
 }

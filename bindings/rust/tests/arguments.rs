@@ -51,6 +51,14 @@ fn the_text_is_of_form_3_where_there_are_parameters() {
     assert_eq!(none.program().map(|program| program.parameters(0)), Ok(Some(0)));
 }
 
+/// Why a file is refused.
+fn fault(error: Error) -> FileFault {
+    match error {
+        Error::Refused { fault, .. } => fault,
+        other => panic!("{other}"),
+    }
+}
+
 #[test]
 fn what_is_refused() {
     let declares = |parameters: [&str; 2]| {
@@ -60,21 +68,38 @@ fn what_is_refused() {
         declare.program().map(|_| ())
     };
     assert_eq!(declares(["a", "b"]), Ok(()));
-    assert_eq!([declares(["a", "a"]), declares(["x", "b"]), declares(["a b", "c"])], [Err(Error::Name); 3]);
+    for twice in [declares(["a", "a"]), declares(["x", "b"])] {
+        assert_eq!(twice.map_err(fault), Err(FileFault::Name));
+    }
+    assert_eq!(declares(["a b", "c"]), Err(Error::WrongName("a b".to_string())));
     for given in [&[][..], &[1, 2]] {
         let mut bank = declared();
         let pay = bank.tx_with("again", ["n"], |[n]| (skip(), param(&n)));
         bank.run_with(&pay, 1, given);
-        assert_eq!(bank.text(), Err(Error::Name));
+        // It is told where the run stands.
+        let text = bank.text().unwrap();
+        let last = text.lines().last().unwrap();
+        assert!(last.starts_with("(run again 1"));
+        let told = bank.program().map(|_| ());
+        assert!(matches!(told, Err(Error::Refused { fault: FileFault::Name, column: 6, .. })));
+        let Err(Error::Refused { line, .. }) = told else { unreachable!() };
+        assert_eq!(line, text.lines().count());
     }
+    // Also where no transaction has parameters.
+    let mut none = Declare::new();
+    let tx = none.tx("t", skip(), 0);
+    none.run_with(&tx, 1, &[7]);
+    assert_eq!(none.text().as_deref(), Ok("(stm 3)\n(tx t () (skip) 0)\n(run t 1 7)\n"));
+    let told = none.program().map(|_| ());
+    assert!(matches!(told, Err(Error::Refused { fault: FileFault::Name, line: 3, column: 6, .. })));
     let mut nine = Declare::new();
     nine.tx_with("t", ["a", "b", "c", "d", "e", "f", "g", "h", "i"], |[a, ..]| (skip(), param(&a)));
-    assert_eq!(nine.program().map(|_| ()), Err(Error::Limit));
+    assert_eq!(nine.program().map(|_| ()).map_err(fault), Err(FileFault::Limit));
     let mut other = Declare::new();
     let mut kept = None;
     other.tx_with("t", ["a"], |[a]| (skip(), param(kept.insert(a))));
     other.tx("u", skip(), param(&kept.unwrap()));
-    assert_eq!(other.program().map(|_| ()), Err(Error::Name));
+    assert_eq!(other.program().map(|_| ()).map_err(fault), Err(FileFault::Name));
 }
 
 #[test]
@@ -123,9 +148,9 @@ fn calls_of_a_store() {
         for given in (0..=9).filter(|given| *given != parameters) {
             let (refused, arguments) =
                 (Error::WrongArguments { transaction, parameters, given }, &NINE[..given]);
-            assert_eq!(store.submit(transaction, arguments), Err(refused));
-            assert_eq!(store.call(transaction, arguments, Way::Waits), Err(refused));
-            assert_eq!(store.call(transaction, arguments, Way::Tries), Err(refused));
+            assert_eq!(store.submit(transaction, arguments), Err(refused.clone()));
+            assert_eq!(store.call(transaction, arguments, Way::Waits), Err(refused.clone()));
+            assert_eq!(store.call(transaction, arguments, Way::Tries), Err(refused.clone()));
             assert_eq!(worker.observe(transaction, arguments), Err(refused));
         }
     }

@@ -1,8 +1,8 @@
 //! Each call once where it does what it is for, and at its limits.
 
 use stm::{
-    Answer, Arguments, Counts, Declare, End, Entered, Error, Job, Outcome, Part, Program, RunOptions, Store,
-    Ticket, Verdict,
+    Answer, Arguments, Counts, Declare, End, Entered, Error, FileFault, Job, Outcome, Part, Program,
+    RunOptions, Store, Ticket, Verdict,
 };
 
 const FILE: &str = "(var x 5)\n(tx inc (set x (add x 1)) x)\n(tx wait (if (lt x 100) (retry) (skip)) x)\n(run inc 2)\n(run wait 1)\n";
@@ -16,15 +16,24 @@ fn returned(ticket: u64, number: u64, value: i64) -> Result<Answer, Error> {
     is(ticket, End::Entered(Entered { number, outcome: Outcome::Returned(value) }))
 }
 
+/// Why a file is refused.
+fn fault(error: Error) -> FileFault {
+    match error {
+        Error::Refused { fault, .. } => fault,
+        other => panic!("{other}"),
+    }
+}
+
 #[test]
 fn whole_files() {
     let report = stm::run_one(FILE, 0).unwrap();
     assert_eq!(report, "base 0\nx 5 0\nentry 1 0 inc returned 6\nentry 2 1 inc returned 7\nnow 2\nx 7 2\nparked 2 wait\nend\n");
     assert_eq!(stm::check(FILE, &report), Ok(Verdict::Good));
     assert_eq!(stm::check(FILE, &report.replace("x 7 2", "x 8 2")), Ok(Verdict::Bad(Part::Present)));
-    assert_eq!(stm::check("(", &report), Err(Error::Shape));
-    assert_eq!(stm::run_one("(var x 1)(var x 2)", 0), Err(Error::Name));
-    assert_eq!(stm::run_one("(stm 2)(var x 1)(always low (lt x 1))", 0), Err(Error::Broken));
+    assert_eq!(stm::check("(", &report).map_err(fault), Err(FileFault::Shape));
+    assert_eq!(stm::run_one("(var x 1)(var x 2)", 0).map_err(fault), Err(FileFault::Name));
+    let broken = stm::run_one("(stm 2)(var x 1)(always low (lt x 1))", 0);
+    assert_eq!(broken.map_err(fault), Err(FileFault::Broken));
     assert!(stm::world(FILE, "begin 0\n").is_ok());
     assert!(matches!(stm::world(FILE, "nothing\n"), Err(Error::Schedule(_))));
 }
@@ -46,7 +55,7 @@ fn every_order() {
         (stm::explore(FILE, 0), stm::explore(FILE, 16_777_217)),
         (Err(Error::States), Err(Error::States))
     );
-    assert_eq!(stm::explore("(", 10), Err(Error::Shape));
+    assert_eq!(stm::explore("(", 10).map_err(fault), Err(FileFault::Shape));
 }
 
 #[test]

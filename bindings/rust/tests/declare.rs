@@ -119,41 +119,51 @@ fn tables() {
         (at acct (add spare 1)))\n(run pay 1 0 1 60)\n";
     assert_eq!(bank.text().as_deref(), Ok(text));
     bank.table("a[0]", 1, 0);
-    assert_eq!(bank.text(), Err(Error::Name));
+    assert_eq!(bank.text(), Err(Error::WrongName("a[0]".to_string())));
+}
+
+/// Why a file is refused.
+fn fault(error: Error) -> FileFault {
+    match error {
+        Error::Refused { fault, .. } => fault,
+        other => panic!("{other}"),
+    }
 }
 
 /// A word that is no name declares nothing, and is spliced in nowhere.
 #[test]
 fn names_are_judged() {
     for word in ["", "x 1) (var y", "1x", "_x", "x-", "x\n", "é", "x)", "(", " x"] {
+        let told = Err(Error::WrongName(word.to_string()));
         let mut vars = Declare::new();
         let wrong = vars.var(word, 2);
-        assert_eq!((vars.text(), vars.program().map(|_| ())), (Err(Error::Name), Err(Error::Name)), "{word}");
+        assert_eq!((vars.text(), vars.program().map(|_| String::new())), (told.clone(), told.clone()));
+        // The first one is told.
+        vars.var("2", 2);
         let mut always = Declare::new();
         always.always(word, eq(0, 0));
-        assert_eq!(always.text(), Err(Error::Name), "{word}");
         let mut txs = Declare::new();
         let tx = txs.tx(word, skip(), 0);
-        assert_eq!(txs.text(), Err(Error::Name), "{word}");
+        assert_eq!([vars.text(), always.text(), txs.text()], [told.clone(), told.clone(), told]);
         // Nor is it in another program.
         let mut other = Declare::new();
         let good = other.tx("t", set(&wrong, 1), 0);
-        assert_eq!(other.program().map(|_| ()), Err(Error::Shape), "{word}");
+        assert_eq!(other.program().map(|_| ()).map_err(fault), Err(FileFault::Shape), "{word}");
         let mut other = Declare::new();
         other.tx("t", skip(), 0);
         other.run(&tx, 1);
-        assert_eq!(other.program().map(|_| ()), Err(Error::Shape), "{word}");
+        assert_eq!(other.program().map(|_| ()).map_err(fault), Err(FileFault::Shape), "{word}");
         other.run(&good, 1);
     }
     let mut long = Declare::new();
     long.var(&"a".repeat(32), 0);
     assert!(long.program().is_ok());
     long.var(&"b".repeat(33), 0);
-    assert_eq!(long.program().map(|_| ()), Err(Error::Limit));
+    assert_eq!(long.program().map(|_| ()).map_err(fault), Err(FileFault::Limit));
     let mut twice = Declare::new();
     twice.var("x", 0);
     twice.var("x", 0);
-    assert_eq!(twice.program().map(|_| ()), Err(Error::Name));
+    assert_eq!(twice.program().map(|_| ()).map_err(fault), Err(FileFault::Name));
 }
 
 /// 31 additions open 31 parentheses, and the transaction one; the sum of so many parts opens few.
@@ -163,9 +173,9 @@ fn depth() {
         let mut deep = Declare::new();
         let x = deep.var("x", 1);
         deep.tx("t", skip(), (1..parts).fold(var(&x), |all, one| all + one));
-        deep.program().map(|_| ())
+        deep.program().map(|_| ()).map_err(fault)
     };
-    assert_eq!((chain(32), chain(33)), (Ok(()), Err(Error::Shape)));
+    assert_eq!((chain(32), chain(33)), (Ok(()), Err(FileFault::Shape)));
     let mut flat = Declare::new();
     flat.tx("t", skip(), sum(0..10_000));
     assert!(flat.program().is_ok());

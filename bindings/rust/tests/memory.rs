@@ -95,6 +95,7 @@ fn memory() {
     what_is_let_go();
     texts_leave_nothing();
     reads_are_refused();
+    explanations_are_refused();
     let program = Program::read(FILE).unwrap();
     calls_are_refused(&program);
     runs_are_refused(&program);
@@ -123,7 +124,7 @@ fn texts_leave_nothing() {
             && stm::explore(FILE, 100).is_ok()
             && stm::world(FILE, "begin 0\n").is_ok()
     );
-    assert_eq!(Program::read("(var x").map(|_| ()), Err(Error::Shape));
+    assert!(matches!(Program::read("(var x"), Err(Error::Refused { line: 1, column: 7, .. })));
     assert_eq!(blocks(), before);
 }
 
@@ -142,6 +143,25 @@ fn reads_are_refused() {
         });
     }
     assert!(told > 0, "{told} reads of {all} were refused");
+}
+
+/// Each request is refused in turn of a read that is refused: it says why and where, or that memory ran out, and leaves
+/// nothing.
+fn explanations_are_refused() {
+    let read = || Program::read("(var x").map(|_| ());
+    let whole = read();
+    let all = refusing(0, || assert_eq!(read(), whole));
+    let mut told = 0;
+    for number in 1..=all {
+        let left = left_of(|| {
+            refusing(number, || match read() {
+                Err(Error::Memory) => told += 1,
+                other => assert_eq!(other, whole, "request {number}"),
+            });
+        });
+        assert_eq!(left, 0, "request {number}");
+    }
+    assert!(told > 0, "{told} reads of {all} were refused memory");
 }
 
 /// A request of each call is refused: the call says so, or a task is given up.

@@ -1,23 +1,58 @@
 //! Each reason why a call answers nothing, each verdict, and what becomes of a task.
 
 use stm::{
-    Answer, End, Entered, Error, Job, Outcome, Part, Program, ScheduleFault, Store, Ticket, Verdict, Way,
-    Worker,
+    Answer, Declare, End, Entered, Error, FileFault, Job, Outcome, Part, Program, ScheduleFault, Service,
+    Store, Ticket, Verdict, Way, Worker,
 };
 
 fn read(text: &str) -> Result<(), Error> {
     Program::read(text).map(|_| ())
 }
 
+/// Each call that reads the text tells this fault at this place, in the same words.
+fn is_refused(text: &str, wanted: FileFault, place: (usize, usize)) -> String {
+    let Err(Error::Refused { fault, line, column, text: words }) = stm::explain(text) else {
+        panic!("it is refused: {text:.40}")
+    };
+    assert_eq!((fault, (line, column)), (wanted, place), "{text:.40}");
+    assert!(words.starts_with(&format!("line {line}, column {column}: ")) && !words.ends_with('\n'));
+    let told = Err(Error::Refused { fault, line, column, text: words.clone() });
+    assert_eq!(read(text), told);
+    assert_eq!(Service::open(text).map(|_| ()), told);
+    assert_eq!(stm::run_one(text, 0).map(|_| ()), told);
+    assert_eq!(stm::check(text, "").map(|_| ()), told);
+    assert_eq!(stm::world(text, "").map(|_| ()), told);
+    assert_eq!(stm::explore(text, 9).map(|_| ()), told);
+    assert_eq!(stm::explore_to(text, 9, 1).map(|_| ()), told);
+    words
+}
+
 #[test]
 fn files() {
-    assert_eq!(read(&" ".repeat(1_048_577)), Err(Error::TooLong));
-    assert_eq!(read("(var x 1)\u{7f}"), Err(Error::BadByte));
-    assert_eq!(read("(var x"), Err(Error::Shape));
-    assert_eq!(read("(tx t (skip) x)"), Err(Error::Name));
-    assert_eq!(read("(tx t (repeat 1001 (skip)) 0)"), Err(Error::Limit));
-    assert_eq!(read("(stm 2)(var x 1)(always low (lt x 1))"), Err(Error::Broken));
-    assert_eq!(read(""), Ok(()));
+    is_refused(&" ".repeat(1_048_577), FileFault::TooLong, (1, 1_048_577));
+    is_refused("(var x 1)\u{7f}", FileFault::BadByte, (1, 10));
+    // Columns are in bytes.
+    is_refused("; one\n; \u{e9}", FileFault::BadByte, (2, 3));
+    is_refused("(var x", FileFault::Shape, (1, 7));
+    is_refused("\n(tx t (skip)\n  x)", FileFault::Name, (3, 3));
+    is_refused("(tx t (repeat 1001 (skip)) 0)", FileFault::Limit, (1, 15));
+    is_refused("(stm 2)(var x 1)(always low (lt x 1))", FileFault::Broken, (1, 25));
+    let words = is_refused("(var x 1)\n(tx t (set x (plus x 1)) x)", FileFault::Shape, (2, 15));
+    assert!(words.starts_with("line 2, column 15: F3 Shape: ") && words.ends_with("here stands plus"));
+    assert_eq!((read(""), stm::explain("")), (Ok(()), Ok(())));
+}
+
+/// What is told of a declared program is told of the text that it spells.
+#[test]
+fn declared_programs() {
+    let mut declare = Declare::new();
+    declare.var("x", 1);
+    declare.var("x", 2);
+    let text = declare.text().unwrap();
+    is_refused(&text, FileFault::Name, (3, 6));
+    let told = stm::explain(&text);
+    assert_eq!(text.lines().nth(2), Some("(var x 2)"));
+    assert_eq!((declare.program().map(|_| ()), declare.service().map(|_| ())), (told.clone(), told));
 }
 
 #[test]
@@ -31,7 +66,7 @@ fn schedules() {
     refused("commit\n", ScheduleFault::Shape);
     refused("begin 0\nread 0 y\n", ScheduleFault::Name);
     refused("begin 1\n", ScheduleFault::Limit);
-    assert_eq!(stm::world("(var x", "begin 0\n"), Err(Error::Shape));
+    assert_eq!(stm::world("(var x", "commit\n"), stm::explain("(var x").map(|()| String::new()));
     assert!(stm::world(file, "begin 0\n").is_ok());
 }
 
@@ -49,7 +84,6 @@ fn verdicts() {
     assert_eq!(judged("parked 1 wait\n", ""), Verdict::Bad(Part::Tasks));
     let two = "(var x 5)(tx inc (set x (add x 1)) x)(tx wait (if (eq x 5) (retry) (skip)) x)(run inc 1)(run wait 1)";
     assert_eq!(stm::check(two, good), Ok(Verdict::Bad(Part::Parked)));
-    assert_eq!(stm::check("(var x", good), Err(Error::Shape));
 }
 
 #[test]
@@ -68,14 +102,13 @@ fn stores() {
     );
     assert_eq!(store.report_now(), Err(Error::WorkLeft));
     for ticket in [Ticket(9), Ticket(u64::MAX)] {
-        let gone = Error::Gone;
-        assert_eq!((store.claim(ticket), store.give_up(ticket)), (Err(gone), Err(gone)));
-        assert_eq!((store.standing(ticket), store.outcome(ticket)), (Err(gone), Err(gone)));
+        assert_eq!((store.claim(ticket), store.give_up(ticket)), (Err(Error::Gone), Err(Error::Gone)));
+        assert_eq!((store.standing(ticket), store.outcome(ticket)), (Err(Error::Gone), Err(Error::Gone)));
     }
-    let unknown = Error::UnknownTransaction(2);
-    assert_eq!(worker.observe(2, &[]), Err(unknown));
+    assert_eq!(worker.observe(2, &[]), Err(Error::UnknownTransaction(2)));
     for way in [Way::Waits, Way::Tries] {
-        assert_eq!((store.call(2, &[], way), store.call(0, &[], way)), (Err(unknown), Err(Error::NoRoom)));
+        assert_eq!(store.call(2, &[], way), Err(Error::UnknownTransaction(2)));
+        assert_eq!(store.call(0, &[], way), Err(Error::NoRoom));
     }
     jobs(store, worker);
 }

@@ -111,7 +111,7 @@ fn a_task_waits_across_chapters() {
 fn a_program_without_transactions_has_no_calls() {
     let store = Store::open_with_room(&Program::read("(var x 1)").unwrap(), 0, 0, 1).unwrap();
     let unknown = Err(Error::UnknownTransaction(0));
-    assert_eq!((store.call(0, &[], Way::Waits), store.call(0, &[], Way::Tries)), (unknown, unknown));
+    assert_eq!((store.call(0, &[], Way::Waits), store.call(0, &[], Way::Tries)), (unknown.clone(), unknown));
     assert_eq!((store.take(), store.turns(9)), (Err(Error::NotReady), 0));
     let other = Store::open(&Program::read("(tx t (skip) 0)(run t 1)").unwrap(), 0, 0).unwrap();
     assert_eq!(store.turn(other.take().unwrap()), Err(Error::Gone));

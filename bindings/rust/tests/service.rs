@@ -324,10 +324,10 @@ fn all_room_is_taken_by_calls_that_wait() {
 
 #[test]
 fn files_that_are_refused() {
-    let code = |text: &str| Service::open(text).err();
-    assert_eq!(code("(var x"), Some(Error::Shape));
-    assert_eq!(code("(var x 1) (var x 2)"), Some(Error::Name));
-    assert_eq!(code("(stm 2) (var x 1) (always no (eq x 2))"), Some(Error::Broken));
+    for text in ["(var x", "(var x 1) (var x 2)", "(stm 2) (var x 1) (always no (eq x 2))"] {
+        let told = Service::open(text).map(|_| ());
+        assert!(matches!(told, Err(Error::Refused { line: 1, .. })) && told == stm::explain(text), "{text}");
+    }
     let code = |options| Service::open_with(TEXT, options).err();
     assert_eq!(code(ServiceOptions::new().room(70_000)), Some(Error::NoRoom));
     assert_eq!(code(ServiceOptions::new().observers(33)), Some(Error::TooManyWorkers));

@@ -89,22 +89,30 @@ fn cells_of_a_service() {
     }
 }
 
+/// Why a file is refused.
+fn fault(error: Error) -> FileFault {
+    match error {
+        Error::Refused { fault, .. } => fault,
+        other => panic!("{other}"),
+    }
+}
+
 #[test]
 fn limits() {
     let refused = |make: &dyn Fn(&mut Declare)| {
         let mut declare = Declare::new();
         make(&mut declare);
-        declare.program().map(|_| ())
+        declare.program().map(|_| ()).map_err(fault)
     };
     assert_eq!(refused(&|all| drop(all.table("t", 1, 0))), Ok(()));
-    assert_eq!(refused(&|all| drop(all.table("t", 0, 0))), Err(Error::Limit));
-    assert_eq!(refused(&|all| drop(all.table_of("t", &[]))), Err(Error::Shape));
+    assert_eq!(refused(&|all| drop(all.table("t", 0, 0))), Err(FileFault::Limit));
+    assert_eq!(refused(&|all| drop(all.table_of("t", &[]))), Err(FileFault::Shape));
     assert_eq!(refused(&|all| drop(all.table("t", 1_048_576, 0))), Ok(()));
-    assert_eq!(refused(&|all| drop(all.table("t", 1_048_577, 0))), Err(Error::Limit));
+    assert_eq!(refused(&|all| drop(all.table("t", 1_048_577, 0))), Err(FileFault::Limit));
     assert_eq!(refused(&|all| (0..64).for_each(|i| drop(all.table(&format!("t{i}"), 1, 0)))), Ok(()));
     assert_eq!(
         refused(&|all| (0..65).for_each(|i| drop(all.table(&format!("t{i}"), 1, 0)))),
-        Err(Error::Limit)
+        Err(FileFault::Limit)
     );
-    assert_eq!(refused(&|all| (0..2).for_each(|_| drop(all.table("t", 1, 0)))), Err(Error::Name));
+    assert_eq!(refused(&|all| (0..2).for_each(|_| drop(all.table("t", 1, 0)))), Err(FileFault::Name));
 }

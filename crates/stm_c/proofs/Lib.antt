@@ -4,6 +4,7 @@ pub mod DeskHandle
 pub mod DeskTickets
 pub mod EndedHandle
 pub mod LenderHandle
+pub mod Line
 pub mod ProgramHandle
 pub mod ProgramReads
 pub mod Refused

@@ -2,6 +2,7 @@
 use Rattle.std.specs.Prelude.{◌≡◌, ℕ, ℤ, List, ◌++◌, true, None, IfSome, Option, Result, option_to_list}
 use Rattle.txn_programs.specs.declared.arguments.Call.{Call}
 use Rattle.txn_programs.specs.Listing.{IsCallable}
+use Rattle.txn_programs.specs.declared.ast.Outcome.{Outcome}
 use Rattle.book.specs.Turns.{IsIdle}
 use Rattle.stm_store.specs.Keeping.{HasBrought, KeepsTasks}
 use Rattle.stm_store.specs.declared.answers.Refused.{Refused}
@@ -16,6 +17,7 @@ use Rattle.stm_desk.specs.Answering.{HasBroughtIn, HasRun, IsAsked}
 use Rattle.stm_desk.specs.Ending.{Settled}
 use Rattle.stm_desk.specs.History.{Begins}
 use Rattle.stm_desk.specs.Keeping.{IsToldOf}
+use Rattle.stm_desk.specs.Observing.{IsAsBefore, TellsEnd}
 use Rattle.stm_desk.specs.Running.{HandsOut, IsHanded}
 use Rattle.stm_desk.specs.Serving.{HasLeft, OnlyLeft}
 use Rattle.stm_desk.specs.Waiting.{AreShutOut, HandsOn, waiting_at}
@@ -23,6 +25,7 @@ use Rattle.stm_c.specs.declared.answers.Answer.{Answer}
 use Rattle.stm_c.specs.declared.desk_answers.AnswerTo.{AnswerTo}
 use Rattle.stm_c.specs.declared.desk_answers.JobFor.{JobFor}
 use Rattle.stm_c.specs.declared.jobs.Taken.{Taken}
+use Rattle.stm_c.specs.Answers.{answer_observed}
 use Rattle.stm_c.specs.DeskAnswers.{answer_asked, due_as, job_asked, told_as}
 use Rattle.stm_c.specs.Numbers.{not_there, number_of_done, way_told}
 
@@ -45,6 +48,13 @@ pub record AsksFor (old : Desk) (call : Call) (way whose : ℕ) (before : Taken)
   pub lent : job ≡ job_asked before how
   pub history : Begins old.work.history.items new.work.history.items
   pub kept : KeepsDesk old new
+
+-- `stm_desk_outcome_now`: how a call would end on the present values, or why that is not told; nothing changed
+pub record TellsEndOf (old : Desk) (tx : ℕ) (arguments : List ℤ) (answer : Answer) (new : Desk) : Type 0 where
+  pub how : Result Outcome Refused
+  pub tells : TellsEnd old (record { 0 = tx }) arguments how
+  pub answered : answer ≡ answer_observed how
+  pub stays : IsAsBefore old.work new.work
 
 -- `stm_desk_next_told`: what became of a call that waited is told once, as the history has it
 pub record TellsNext (old : Desk) (answer : AnswerTo) (new : Desk) : Type 0 where

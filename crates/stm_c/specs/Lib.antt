@@ -7,6 +7,7 @@ pub mod DeskChapters
 pub mod DeskHandle
 pub mod EndedHandle
 pub mod EndedTexts
+pub mod Explained
 pub mod Files
 pub mod Held
 pub mod Holding

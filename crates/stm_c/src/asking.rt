@@ -4,10 +4,10 @@ ghost use Rattle.std.specs.Prelude.{◌≡◌, None, pos};
 ghost use Rattle.stm_c.specs.Answers.{nothing_held};
 ghost use Rattle.stm_c.specs.ByTicket.{OnTicket};
 ghost use Rattle.stm_c.specs.DeskAnswers.{nothing_told};
-ghost use Rattle.stm_c.specs.DeskCalls.{AsksFor, Closes, LeavesTicket, TellsNext, call_with};
+ghost use Rattle.stm_c.specs.DeskCalls.{AsksFor, Closes, LeavesTicket, TellsEndOf, TellsNext, call_with};
 ghost use Rattle.stm_c.specs.Held.{On};
 
-use crate::answers::{Answer, empty};
+use crate::answers::{Answer, empty, observed};
 use crate::codes::{EMPTY, GONE, done, way_of};
 use crate::desk_answers::{AnswerTo, asked, lend_job, nothing_told, told};
 use crate::desk_handle::DeskHandle;
@@ -48,6 +48,26 @@ fn ask(desk: &mut Desk, tx: u32, arguments: &[i64], way: u32, whose: u64, job: &
     let how = desk.ask(TxId(tx), arguments, way_of(way), whose);
     lend_job(&how, job);
     asked(chapter, &how)
+}
+
+/// How a call of the transaction would end on the present values: nothing is entered, and nothing changes. 1: it
+/// retries. -19: the desk is closed; -9: there is no such transaction, or it wants another number of arguments;
+/// -6: out of memory; -12: the handle is empty.
+#[unsafe(no_mangle)]
+pub extern "C" fn stm_desk_outcome_now(desk: &mut DeskHandle, tx: u32, arguments: &[i64]) -> Answer
+    ensures { On desk.old.value desk.new.value nothing_held result
+        (λ old answer new. TellsEndOf old tx arguments.now answer new) }
+{
+    let Some(held) = desk.get_mut() else {
+        return empty();
+    };
+    outcome_now(held, tx, arguments)
+}
+
+fn outcome_now(desk: &mut Desk, tx: u32, arguments: &[i64]) -> Answer
+    ensures { TellsEndOf desk.old tx arguments.now result desk.new }
+{
+    observed(desk.outcome_now(TxId(tx), arguments))
 }
 
 /// What became of a call that waited, and whose it is: it is told once. -26, and nobody's: nothing is to be told. -12:

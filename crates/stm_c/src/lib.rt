@@ -1,5 +1,5 @@
 //! The library as C and Rust hosts link it: whole files in, whole texts out (`checking`, `running`,
-//! `playing`, `exploring`); and a program, stores of it and their workers, for a host that has
+//! `playing`, `exploring`, `explaining`); and a program, stores of it and their workers, for a host that has
 //! threads and a lock of its own (`reading`, `hosting`, `submitting`, `tasks`, `calling`,
 //! `chapters`, `looking`, `trying`). No call starts a thread or takes a lock. What each answers in
 //! numbers stands in `codes`, and in the header for C; of a task in an `Answer`, of a job in a `Taken`.
@@ -19,6 +19,7 @@ mod desk_looking;
 mod desk_opening;
 mod ended_handle;
 mod ended_texts;
+mod explaining;
 mod exploring;
 mod hosting;
 mod jobs;

@@ -1,7 +1,8 @@
 //! Calls without a thread, of a service (`bindings/c/service.h`).
 
-use super::service::{locked, message_of, returned, RawService};
+use super::service::{locked, message_of, receipt, RawService};
 use super::{code, Told};
+use crate::answers::Receipt;
 use crate::error::Fault;
 use std::ffi::c_void;
 use std::panic::{catch_unwind, AssertUnwindSafe};
@@ -70,16 +71,16 @@ impl RawService {
         drop(unsafe { Arc::from_raw(own) });
         let code = i32::try_from(ticket).expect("a fault is a code");
         let told = Told { ticket: -1, code, value: 0, chapter: 0, entry: 0, place: 0 };
-        Err(returned(&told, || self.refusal(transaction, count)).expect_err("nothing was started"))
+        Err(receipt(&told, || self.refusal(transaction, count)).expect_err("nothing was started"))
     }
 }
 
 impl RawCall<'_> {
-    /// What the call returned, if it was told; else the waker is woken then.
-    pub fn answer(&self, waker: &Waker) -> Option<Result<i64, Fault>> {
+    /// How the call was entered, or why it was not, if it was told; else the waker is woken then.
+    pub fn answer(&self, waker: &Waker) -> Option<Result<Receipt, Fault>> {
         let mut heard = locked(&self.heard);
         if let Some(told) = &heard.answer {
-            return Some(returned(told, || self.service.refusal(self.transaction, self.given)));
+            return Some(receipt(told, || self.service.refusal(self.transaction, self.given)));
         }
         let is_known = heard.waker.as_ref().is_some_and(|known| known.will_wake(waker));
         let before = if is_known { None } else { heard.waker.replace(waker.clone()) };

@@ -1,7 +1,8 @@
 //! The calls of a service, which is the part of the library that is in C (`bindings/c/service.h`).
 
-use super::{code, error_of, outcome, text, Told};
-use crate::answers::Outcome;
+use super::explaining::refused;
+use super::{code, outcome, text, Told};
+use crate::answers::{Receipt, Ticket};
 use crate::error::{Error, Fault, NotKept};
 use std::any::Any;
 use std::ffi::c_void;
@@ -138,18 +139,9 @@ unsafe impl Send for RawService {}
 // SAFETY: as for `Send`.
 unsafe impl Sync for RawService {}
 
-/// What a call returned, or why it did not; where the library makes no such call, this is why.
-pub(super) fn returned(told: &Told, unknown: impl FnOnce() -> Fault) -> Result<i64, Fault> {
-    match outcome(told) {
-        Some(Outcome::Returned(value)) => return Ok(value),
-        Some(Outcome::Thrown(value)) => return Err(Fault::Thrown(value)),
-        Some(Outcome::Overflow) => return Err(Fault::Overflow),
-        Some(Outcome::DivideByZero) => return Err(Fault::DivideByZero),
-        Some(Outcome::Broken(condition)) => return Err(Fault::Broken(condition)),
-        Some(Outcome::Outside) => return Err(Fault::Outside),
-        None => {}
-    }
-    Err(match told.code {
+/// Why a call was not entered; where the library makes no such call, this is why.
+fn fault(told: &Told, unknown: impl FnOnce() -> Fault) -> Fault {
+    match told.code {
         code::RETRIES => Fault::Retries,
         code::TIMED_OUT => Fault::TimedOut,
         code::CLOSED => Fault::Closed,
@@ -157,7 +149,15 @@ pub(super) fn returned(told: &Told, unknown: impl FnOnce() -> Fault) -> Result<i
         code::MEMORY | code::GIVEN_UP => Fault::Memory,
         code::UNKNOWN => unknown(),
         other => unreachable!("the library answers {other}"),
-    })
+    }
+}
+
+/// How a call was entered, or why it was not.
+pub(super) fn receipt(told: &Told, unknown: impl FnOnce() -> Fault) -> Result<Receipt, Fault> {
+    let Told { ticket, chapter, entry, place, .. } = *told;
+    let ticket = Ticket(ticket as u64);
+    let outcome = outcome(told).ok_or_else(|| fault(told, unknown))?;
+    Ok(Receipt { ticket, chapter, entry, place, outcome })
 }
 
 impl RawService {
@@ -179,7 +179,7 @@ impl RawService {
         match unsafe { stm_service_open(file.as_ptr(), file.len(), &options, &mut made.at) } {
             code::DONE => Ok(made),
             code::NO_WORKER => Err(Error::TooManyWorkers),
-            code => Err(error_of(code)),
+            code => Err(refused(file, code)),
         }
     }
 
@@ -210,17 +210,17 @@ impl RawService {
         }
     }
 
-    pub fn atomically(&self, transaction: u32, arguments: &[i64]) -> Result<i64, Fault> {
+    pub fn atomically(&self, transaction: u32, arguments: &[i64]) -> Result<Receipt, Fault> {
         // SAFETY: from any thread; a slice that is borrowed for the call. The library tests the number, and how many
         // arguments there are.
         let told = unsafe { stm_atomically(self.at, transaction, arguments.as_ptr(), arguments.len()) };
-        returned(&told, || self.refusal(transaction, arguments.len()))
+        receipt(&told, || self.refusal(transaction, arguments.len()))
     }
 
-    pub fn try_atomically(&self, transaction: u32, arguments: &[i64]) -> Result<i64, Fault> {
+    pub fn try_atomically(&self, transaction: u32, arguments: &[i64]) -> Result<Receipt, Fault> {
         // SAFETY: as `atomically`.
         let told = unsafe { stm_try_atomically(self.at, transaction, arguments.as_ptr(), arguments.len()) };
-        returned(&told, || self.refusal(transaction, arguments.len()))
+        receipt(&told, || self.refusal(transaction, arguments.len()))
     }
 
     pub fn atomically_within(
@@ -228,17 +228,18 @@ impl RawService {
         transaction: u32,
         arguments: &[i64],
         nanoseconds: u64,
-    ) -> Result<i64, Fault> {
+    ) -> Result<Receipt, Fault> {
         let (at, count) = (arguments.as_ptr(), arguments.len());
         // SAFETY: as `atomically`.
         let told = unsafe { stm_atomically_within(self.at, transaction, at, count, nanoseconds) };
-        returned(&told, || self.refusal(transaction, arguments.len()))
+        receipt(&told, || self.refusal(transaction, arguments.len()))
     }
 
     pub fn observe(&self, transaction: u32, arguments: &[i64]) -> Result<i64, Fault> {
         // SAFETY: as `atomically`.
         let told = unsafe { stm_service_observe(self.at, transaction, arguments.as_ptr(), arguments.len()) };
-        returned(&told, || self.refusal(transaction, arguments.len()))
+        let unknown = || self.refusal(transaction, arguments.len());
+        outcome(&told).ok_or_else(|| fault(&told, unknown))?.returned()
     }
 
     pub fn value(&self, name: &str) -> Option<(i64, u64)> {
