@@ -38,10 +38,8 @@ use txn_programs::{AlwaysId, Call, Cond, Memory, Op, Table, TaskId, Tx, TxId, Va
 /// Variables, tables, standing conditions, transactions and runs, in declared order. A clause sees what they
 /// say, as a `Listing`. In every catalogue names and ids hold, and all limits, and each condition is
 /// true of the initial values. It keeps the flat code of each transaction, and once that of the
-/// conditions: the listing determines them. They are let go before the trees: blocks as large as
-/// these make the C library join all small ones that lie free, one by one. Beside the names it keeps
-/// where each stands, so that it is found at once.
-#[derive(Drop)]
+/// conditions: the listing determines them. Beside the names it keeps where each stands, so that it is
+/// found at once.
 pub struct Catalogue {
     names: Vec<String>,
     places: HashMap<String, usize>,
@@ -58,6 +56,32 @@ pub struct Catalogue {
     runs: Vec<(Call, u32)>,
     task_txs: Vec<TxId>,
     task_runs: Vec<usize>,
+}
+
+/// Written by hand, so that its end is one call wherever a catalogue is owned. The flat code goes before
+/// the trees: blocks as large as its own make the C library join all small ones that lie free, one by one.
+impl Drop for Catalogue {
+    fn drop(self) {
+        let Catalogue {
+            names: _names,
+            places: _places,
+            tables: _tables,
+            table_places: _table_places,
+            initial: _initial,
+            always: _always,
+            always_places: _always_places,
+            tx_places: _tx_places,
+            codes,
+            ending,
+            most_params: _,
+            txs: _txs,
+            runs: _runs,
+            task_txs: _task_txs,
+            task_runs: _task_runs,
+        } = self;
+        drop(codes);
+        drop(ending);
+    }
 }
 
 impl Model for Catalogue {

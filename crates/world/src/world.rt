@@ -24,9 +24,15 @@ use world_law::{Event, Seen};
 
 /// The stepped world of a catalogue. A clause sees the catalogue's listing and the plain world,
 /// which some events lead to from the opening.
-#[derive(Drop)]
 pub struct World<'a> {
     scene: Scene<'a>,
+}
+
+/// Written by hand, so that its end is one call wherever a world is owned.
+impl Drop for World<'_> {
+    fn drop(self) {
+        let World { scene: _scene } = self;
+    }
 }
 
 impl<'a> Model for World<'a> {
