@@ -1,5 +1,6 @@
-"""Edits that the prover has refused, kept on this machine in ~/.cache/stm-edits/, so that a changed body costs only the
-edits of its own function. That folder may be removed at any time.
+"""Edits that the prover has refused, so that a changed body costs only the edits of its own function: kept on this machine
+in ~/.cache/stm-edits/, which may be removed at any time, and listed in must-fail/refused, which is handed on with the
+sources, so that a new machine need not try all again. `tools/try-edits --write` writes that list.
 
 Only one verdict is kept: that a goal of the very function that the edit changes is left open. It is found again by a
 checksum of all that the check of this edit by itself reads:
@@ -9,7 +10,7 @@ checksum of all that the check of this edit by itself reads:
 - of each library below, as it lies there when the edit is tried and not as its sources stand, what the kit keeps in it
   to be read from above: its declarations with contracts and no bodies, its definitions, its lemmas, and the facts of its
   functions and types that its file `format` lists;
-- the crate's line of crates.txt and those below it, the kit, and these tools.
+- the crate's line of crates.txt and those below it, the kit, and what judges the prover's words (judging.py).
 
 So none hides an edit that would be proved now. Whatever could prove it has to stand in what the check reads: another
 contract, definition or lemma, here or below, another prover, or another text of the function, and each gives another
@@ -18,6 +19,8 @@ reads, and the code of a library, which is for the linker (but where it has cons
 rounds, but a round has one edit of a function, and each changes only what stands in its own function's body: the
 contracts over which the others are tried stay (an edit that reaches beyond a body has a round to itself). A file that
 changes while it is tried is seen, and then nothing is kept.
+
+A list can be written by hand. So the gate draws crates, by what is handed in, whose listed edits it tries all the same.
 """
 
 import functools
@@ -32,8 +35,14 @@ from sources import ROOT, is_static
 from stubbing import PROOF_FILES
 
 KEPT = os.path.join(os.path.expanduser("~"), ".cache", "stm-edits")
+LIST = os.path.join(ROOT, "must-fail", "refused")
+# What stands first in the list, and what is told of an edit that stands there, in place of its goal.
+ABOUT = "# Edits that were refused, each after a checksum of all that its check read: tools/try-edits --write writes this.\n"
+LISTED = "a goal, as must-fail/refused has it"
 # Those that no run asked for in so many days go, and the oldest beyond so many.
 DAYS, MOST = 60, 20_000
+# How much of a checksum the list has: 128 bits.
+LENGTH = 32
 # How a line of a library's `format` begins that is a sum of its files, or of those below it.
 SUMS = (b"needs ", b"over ", b"checked ", b"sum ")
 
@@ -74,20 +83,44 @@ def statements_of(library):
 
 @functools.cache
 def kit_sum():
-    """What names the kit, and the prover's size and date."""
+    """What names the kit, and the prover's bytes."""
     place = proved_libraries.kit()
-    paths = [os.path.join(place, name) for name in ("KIT-ID", "WHAT")]
-    texts = [read(path) for path in paths if os.path.exists(path)]
-    stat = os.stat(os.path.join(place, "bin", "rattle"))
+    paths = [os.path.join(place, name) for name in ("KIT-ID", "WHAT", os.path.join("bin", "rattle"))]
     version = subprocess.run(["rt", "version"], capture_output=True, check=False).stdout
-    return sum_of(version, stat.st_size, stat.st_mtime_ns, *texts)
+    return sum_of(version, *[read(path) for path in paths if os.path.exists(path)])
 
 
 @functools.cache
 def tools_sum():
-    """The text of what reads edits, puts rooms together and judges what the prover says."""
+    """The text of what gives the prover its words, and judges what it says. What reads an edit and puts its room together
+    shows in that room."""
     here = os.path.dirname(os.path.realpath(__file__))
-    return sum_of(*contents(here, ["proved_libraries.py", "sources.py", "stubbing.py", "try-edits", "verdicts.py"]))
+    return sum_of(*contents(here, ["judging.py", "proved_libraries.py"]))
+
+
+def read_list():
+    """The checksums that the list has, by the path of the edit."""
+    if not os.path.exists(LIST):
+        return {}
+    with open(LIST, encoding="utf-8") as file:
+        return {path: key for key, path in (line.split() for line in file if not line.startswith("#"))}
+
+
+def write_list(found, tried):
+    """Writes the list anew: what was found of the edits in these folders, and of all others what it had, where the edit is
+    still there."""
+    lines = {path: key for path, key in read_list().items() if os.path.dirname(path) not in tried} | found
+    lines = {path: key for path, key in lines.items() if os.path.exists(os.path.join(ROOT, path))}
+    with tempfile.NamedTemporaryFile("w", dir=os.path.dirname(LIST), delete=False, encoding="utf-8") as file:
+        file.write(ABOUT + "".join(f"{key} {path}\n" for path, key in sorted(lines.items())))
+    os.chmod(file.name, 0o644)
+    os.replace(file.name, LIST)
+
+
+def drawn(crates, most):
+    """So many of these crates, drawn by what the last commit has, so that who writes the list can't know which."""
+    tree = subprocess.run(["git", "rev-parse", "HEAD"], cwd=ROOT, capture_output=True, check=False).stdout
+    return sorted(crates, key=lambda crate: sum_of(tree, crate))[:most]
 
 
 def base_of(crates, crate):
@@ -99,11 +132,12 @@ def base_of(crates, crate):
 
 
 class Verdicts:
-    """Those of one crate. `plant` puts the crate with an edit into a room, over stubs or not."""
+    """Those of one crate. `plant` puts the crate with an edit into a room, over stubs or not; `listed` are the checksums
+    of edits that are believed to be refused. `refused` are those that are, with what the list is to have of each."""
 
-    def __init__(self, crates, crate, plant, anew=False):
-        self.crates, self.crate, self.plant, self.anew = crates, crate, plant, anew
-        self.base, self.keys = base_of(crates, crate), {}
+    def __init__(self, crates, crate, plant, anew=False, listed=None):
+        self.crates, self.crate, self.plant, self.anew, self.listed = crates, crate, plant, anew, listed or {}
+        self.base, self.keys, self.refused = base_of(crates, crate), {}, {}
 
     def key(self, edit, over_stubs):
         with tempfile.TemporaryDirectory(prefix="stm-edit-") as room:
@@ -119,9 +153,14 @@ class Verdicts:
         for over_stubs in (True, False):
             key = self.keys[edit.path, over_stubs] = self.key(edit, over_stubs)
             path = os.path.join(KEPT, key)
-            if not self.anew and os.path.exists(path):
+            if self.anew:
+                continue
+            if os.path.exists(path):
                 os.utime(path)
-                return read(path).decode()
+            elif self.listed.get(edit.path) != key[:LENGTH]:
+                continue
+            self.refused[edit.path] = key[:LENGTH]
+            return read(path).decode() if os.path.exists(path) else LISTED
         return None
 
     def keep(self, refused):
@@ -136,6 +175,7 @@ class Verdicts:
                 with tempfile.NamedTemporaryFile("w", dir=KEPT, delete=False, encoding="utf-8") as file:
                     file.write(goal)
                 os.replace(file.name, os.path.join(KEPT, key))
+                self.refused[edit.path] = key[:LENGTH]
 
 
 def shrink():
