@@ -16,6 +16,10 @@ static int64_t left(stm_service *s, int64_t number) {
     return number;
 }
 
+const stm_program *stm_service_program(const stm_service *service) {
+    return &service->program;
+}
+
 int64_t stm_service_transaction(const stm_service *service, const uint8_t *name, size_t name_length) {
     stm_service *s = entered(service);
     return left(s, stm_program_transaction(&s->program, name, name_length));

@@ -80,6 +80,10 @@ int stm_ask_keeper(void *own, const uint8_t *file, size_t file_length, const uin
 int32_t stm_service_open(const uint8_t *file, size_t file_length, const stm_service_options *options,
                          stm_service **out);
 
+/* The program of the service, to be asked what it declares (`stm_program_transaction_name`, ..). It is the service's own,
+ * and goes with it. */
+const stm_program *stm_service_program(const stm_service *service);
+
 /* The number of the transaction of this name, or STM_UNKNOWN; and how many parameters it has, or STM_UNKNOWN. */
 int64_t stm_service_transaction(const stm_service *service, const uint8_t *name, size_t name_length);
 int64_t stm_service_parameters(const stm_service *service, uint32_t transaction);

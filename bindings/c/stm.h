@@ -209,19 +209,35 @@ typedef struct stm_lender { void *at; } stm_lender;
 /* Reads a program. */
 int32_t stm_read(const uint8_t *file, size_t file_length, stm_program *out);
 
-/* How many tasks, variables, tables and transactions a program has. 0 of an empty handle. */
+/* How many tasks, variables, tables, standing conditions and transactions a program has. 0 of an empty handle. */
 size_t stm_program_tasks(const stm_program *program);
 size_t stm_program_variables(const stm_program *program);
 size_t stm_program_tables(const stm_program *program);
+size_t stm_program_conditions(const stm_program *program);
 size_t stm_program_transactions(const stm_program *program);
 
 /* How many cells a table has, from 1 to 1048576, numbered from 0; STM_UNKNOWN. */
 int64_t stm_program_cells(const stm_program *program, uint32_t table);
 
-/* The number of the variable, the table or the transaction of this name, or STM_UNKNOWN. */
+/* The number of the variable, the table, the standing condition or the transaction of this name, or STM_UNKNOWN. They
+ * are numbered from 0, as declared. */
 int64_t stm_program_variable(const stm_program *program, const uint8_t *name, size_t name_length);
 int64_t stm_program_table(const stm_program *program, const uint8_t *name, size_t name_length);
+int64_t stm_program_condition(const stm_program *program, const uint8_t *name, size_t name_length);
 int64_t stm_program_transaction(const stm_program *program, const uint8_t *name, size_t name_length);
+
+/* The name of the variable, the table, the standing condition or the transaction of this number, or of a parameter of a
+ * transaction: copied into the room, with no 0 behind it, and `wanted` is its length. STM_SHORT; STM_UNKNOWN. */
+int32_t stm_program_variable_name(const stm_program *program, uint32_t variable, uint8_t *room, size_t room_length,
+                                  size_t *wanted);
+int32_t stm_program_table_name(const stm_program *program, uint32_t table, uint8_t *room, size_t room_length,
+                               size_t *wanted);
+int32_t stm_program_condition_name(const stm_program *program, uint32_t condition, uint8_t *room, size_t room_length,
+                                   size_t *wanted);
+int32_t stm_program_transaction_name(const stm_program *program, uint32_t transaction, uint8_t *room,
+                                     size_t room_length, size_t *wanted);
+int32_t stm_program_parameter_name(const stm_program *program, uint32_t transaction, uint32_t parameter, uint8_t *room,
+                                   size_t room_length, size_t *wanted);
 
 /* How many parameters the transaction has, at most 8; STM_UNKNOWN. */
 int64_t stm_program_parameters(const stm_program *program, uint32_t transaction);

@@ -52,6 +52,25 @@ struct explained {
     std::string words;
 };
 
+/// What a program declares, each kind in the order of its text: the place of a name is its number.
+struct declared {
+    struct table {
+        std::string name;
+        std::size_t cells;
+    };
+    struct transaction {
+        std::string name;
+        /// Their names.
+        std::vector<std::string> parameters;
+    };
+
+    std::vector<std::string> variables;
+    std::vector<table> tables;
+    /// The standing conditions.
+    std::vector<std::string> conditions;
+    std::vector<transaction> transactions;
+};
+
 /// What `value()` throws where there is none.
 class error : public std::runtime_error {
 public:
@@ -384,6 +403,25 @@ public:
     service(service &&) noexcept = default;
     service &operator=(service &&) noexcept = default;
 
+    /// What its program declares.
+    stm::declared declared() const {
+        stm::declared told;
+        if (!held_) return told;
+        const stm_program *of = stm_service_program(held_->at);
+        told.variables = names(stm_program_variables(of), stm_program_variable_name, of);
+        for (auto &name : names(stm_program_tables(of), stm_program_table_name, of)) {
+            auto cells = stm_program_cells(of, static_cast<std::uint32_t>(told.tables.size()));
+            told.tables.push_back({std::move(name), static_cast<std::size_t>(cells)});
+        }
+        told.conditions = names(stm_program_conditions(of), stm_program_condition_name, of);
+        for (auto &name : names(stm_program_transactions(of), stm_program_transaction_name, of)) {
+            auto number = static_cast<std::uint32_t>(told.transactions.size());
+            auto count = static_cast<std::size_t>(stm_program_parameters(of, number));
+            told.transactions.push_back({std::move(name), names(count, stm_program_parameter_name, of, number)});
+        }
+        return told;
+    }
+
     /// The number of a transaction. A call by its number finds it sooner than one by its name.
     std::optional<std::uint32_t> transaction(std::string_view name) const noexcept {
         return counted<std::uint32_t>(stm_service_transaction, detail::bytes(name), name.size());
@@ -560,6 +598,17 @@ private:
         static_assert(std::is_invocable_v<Done &, outcome>, "it takes an outcome");
         std::unique_ptr<Done> done(static_cast<Done *>(own));
         (*done)(outcome(how));
+    }
+
+    /// So many names, which the call copies.
+    template <class Call, class... Given>
+    static std::vector<std::string> names(std::size_t count, Call call, Given... given) {
+        std::vector<std::string> told;
+        for (std::uint32_t number = 0; number < count; number++)
+            told.push_back(detail::text([&](std::uint8_t *room, std::size_t length, std::size_t *wanted) {
+                               return call(given..., number, room, length, wanted);
+                           }).value());
+        return told;
     }
 
     template <class Call> answer<std::string> text(Call call) const {

@@ -3,6 +3,7 @@
 #include "stm.h"
 #include "wants.h"
 
+#include <stdbool.h>
 #include <stdio.h>
 #include <stdlib.h>
 #include <string.h>
@@ -125,6 +126,58 @@ static void long_ones(void) {
     wants(stm_read(NULL, 0, &none) == STM_DONE && stm_program_long(&none, NULL, 0, &wanted) == STM_DONE && wanted == 0);
     stm_program_free(&six);
     stm_program_free(&none);
+}
+
+typedef int32_t name_of(const stm_program *program, uint32_t number, uint8_t *room, size_t length, size_t *wanted);
+
+/* The name is told where the room is as long as it is, or longer; not where it is a byte shorter. */
+static bool is_named(name_of *call, const stm_program *program, uint32_t number, const char *name) {
+    size_t length = strlen(name), wanted = 99, again = 99;
+    memset(room, '?', length + 1);
+    if (call(program, number, room, length - 1, &wanted) != STM_SHORT || wanted != length || room[0] != '?') return false;
+    if (call(program, number, room, length, &again) != STM_DONE || again != length) return false;
+    return memcmp(room, name, length) == 0 && room[length] == '?';
+}
+
+/* There is none of this number: -9, or of an empty handle -12, and the room is as it was. */
+static bool is_nameless(name_of *call, const stm_program *program, uint32_t number, int32_t code) {
+    size_t wanted = 99;
+    memset(room, '?', 9);
+    return call(program, number, room, 9, &wanted) == code && wanted == 0 && room[0] == '?';
+}
+
+static int32_t parameter_of_pay(const stm_program *program, uint32_t number, uint8_t *at, size_t length, size_t *wanted) {
+    return stm_program_parameter_name(program, 1, number, at, length, wanted);
+}
+
+static int32_t first_parameter(const stm_program *program, uint32_t transaction, uint8_t *at, size_t length, size_t *wanted) {
+    return stm_program_parameter_name(program, transaction, 0, at, length, wanted);
+}
+
+/* What a program declares, by its numbers, and that a condition is found by its name. */
+static void names(void) {
+    static const char text[] = "(stm 3)(var xy 0)(var here 7)(table acct 4 9)(table rate 2 5 6)(always low (le xy 9))(always all (le 0 here))"
+                               "(tx get () (skip) xy)(tx pay (from to) (set xy from) to)";
+    static name_of *const calls[] = {stm_program_variable_name, stm_program_table_name, stm_program_condition_name,
+                                     stm_program_transaction_name, parameter_of_pay, first_parameter};
+    static const char *const wanted[][2] = {{"xy", "here"}, {"acct", "rate"}, {"low", "all"}, {"get", "pay"}, {"from", "to"}, {NULL, "from"}};
+    stm_program program = {0}, none = {0};
+    wants(stm_read(bytes(text), strlen(text), &program) == STM_DONE);
+    for (int call = 0; call < 6; call++) {
+        for (uint32_t number = 0; number < 2; number++) {
+            const char *name = wanted[call][number];
+            if (name == NULL) wants(is_nameless(calls[call], &program, number, STM_UNKNOWN));
+            else wants(is_named(calls[call], &program, number, name));
+        }
+        wants(is_nameless(calls[call], &program, 2, STM_UNKNOWN) && is_nameless(calls[call], &program, UINT32_MAX, STM_UNKNOWN));
+        wants(is_nameless(calls[call], &none, 0, STM_EMPTY));
+    }
+    wants(stm_program_parameter_name(&program, 1, UINT32_MAX, room, 9, &(size_t){0}) == STM_UNKNOWN);
+    wants(stm_program_conditions(&program) == 2 && stm_program_conditions(&none) == 0);
+    wants(stm_program_condition(&program, bytes("all"), 3) == 1 && stm_program_condition(&program, bytes("al"), 2) == STM_UNKNOWN);
+    wants(stm_program_condition(&program, bytes("xy"), 2) == STM_UNKNOWN && stm_program_condition(&program, bytes("\377"), 1) == STM_UNKNOWN);
+    wants(stm_program_condition(&none, bytes("all"), 3) == STM_EMPTY);
+    stm_program_free(&program);
 }
 
 /* Where there is no text, `wanted` is 0, whatever it was. */
@@ -254,6 +307,7 @@ int main(void) {
     explained();
     rooms();
     long_ones();
+    names();
     stm_store_free(&store);
     stm_program_free(&program);
     printf("good\n");

@@ -4,6 +4,7 @@
 
 #include <cstdint>
 #include <limits>
+#include <string>
 #include <thread>
 #include <utility>
 #include <vector>
@@ -53,6 +54,19 @@ static void cells_that_are_told() {
     }
 }
 
+static void what_is_declared() {
+    const auto declared = stm::service::open(TEXT).value().declared();
+    wants(declared.variables == std::vector<std::string>{"spare"} && declared.conditions == std::vector<std::string>{"solvent"});
+    wants(declared.tables.size() == 2 && declared.tables[0].name == "acct" && declared.tables[0].cells == 4);
+    wants(declared.tables[1].name == "rate" && declared.tables[1].cells == 2);
+    const auto &calls = declared.transactions;
+    wants(calls.size() == 3 && calls[0].name == "pay" && calls[1].name == "audit" && calls[2].name == "ends");
+    const std::vector<std::string> of_pay = {"from", "to", "n"};
+    wants(calls[0].parameters == of_pay && calls[1].parameters.empty());
+    stm::service bank = stm::service::open("").value(), moved = std::move(bank);
+    wants(moved.declared().transactions.empty() && bank.declared().variables.empty());
+}
+
 static void of_an_empty_service() {
     stm::service bank = stm::service::open(TEXT).value(), moved = std::move(bank);
     wants(!bank.table("acct") && !bank.table_length(0) && !bank.cell(0, 0));
@@ -80,6 +94,7 @@ static void one_state() {
 int main() {
     calls_on_cells();
     cells_that_are_told();
+    what_is_declared();
     of_an_empty_service();
     one_state();
     puts("good");

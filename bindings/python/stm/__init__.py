@@ -36,12 +36,14 @@ from ._faults import (
     WrongArguments,
 )
 from ._files import Verdict, check, explain, explore, explore_to, run, version, world
+from ._names import Declared
 from ._service import Service
 from ._table import Table
 
 __all__ = [
     "Broken",
     "Closed",
+    "Declared",
     "DivideByZero",
     "Error",
     "Fault",

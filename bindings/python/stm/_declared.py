@@ -76,6 +76,7 @@ BEGIN = "IIN"
 _TEXT = [ctypes.c_char_p, ctypes.c_size_t]
 _ROOM = [ctypes.c_char_p, ctypes.c_size_t, ctypes.POINTER(ctypes.c_size_t)]
 _SERVICE, _TX, _CODE, _COUNT = ctypes.c_void_p, ctypes.c_uint32, ctypes.c_int32, ctypes.c_uint64
+_PROGRAM = ctypes.c_void_p
 # A service, a transaction, and where its arguments lie.
 _CALL = [_SERVICE, _TX, ctypes.c_void_p, ctypes.c_size_t]
 
@@ -91,6 +92,18 @@ CALLS: Dict[str, Tuple[Any, List[Any]]] = {
     "stm_explore_to": (_CODE, [*_TEXT, ctypes.c_uint32, ctypes.c_size_t, *_ROOM]),
     "stm_takes_chapters": (ctypes.c_int, [ctypes.c_void_p, *_TEXT, *_TEXT]),
     "stm_service_open": (_CODE, [*_TEXT, ctypes.POINTER(Options), ctypes.POINTER(_SERVICE)]),
+    "stm_service_program": (_PROGRAM, [_SERVICE]),
+    "stm_program_variables": (ctypes.c_size_t, [_PROGRAM]),
+    "stm_program_tables": (ctypes.c_size_t, [_PROGRAM]),
+    "stm_program_conditions": (ctypes.c_size_t, [_PROGRAM]),
+    "stm_program_transactions": (ctypes.c_size_t, [_PROGRAM]),
+    "stm_program_cells": (ctypes.c_int64, [_PROGRAM, ctypes.c_uint32]),
+    "stm_program_parameters": (ctypes.c_int64, [_PROGRAM, _TX]),
+    "stm_program_variable_name": (_CODE, [_PROGRAM, ctypes.c_uint32, *_ROOM]),
+    "stm_program_table_name": (_CODE, [_PROGRAM, ctypes.c_uint32, *_ROOM]),
+    "stm_program_condition_name": (_CODE, [_PROGRAM, ctypes.c_uint32, *_ROOM]),
+    "stm_program_transaction_name": (_CODE, [_PROGRAM, _TX, *_ROOM]),
+    "stm_program_parameter_name": (_CODE, [_PROGRAM, _TX, ctypes.c_uint32, *_ROOM]),
     "stm_service_transaction": (ctypes.c_int64, [_SERVICE, *_TEXT]),
     "stm_service_parameters": (ctypes.c_int64, [_SERVICE, _TX]),
     "stm_atomically": (Answer, _CALL),

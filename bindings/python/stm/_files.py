@@ -11,9 +11,8 @@ from ._faults import MoreStates, NoEnd, OutOfMemory, Refused
 from ._library import library
 
 
-def copied(call: Callable[..., int], *given: object) -> tuple[int, str]:
+def copied(call: Callable[..., int], *given: object, length: int = 1 << 16) -> tuple[int, str]:
     """The code of a call, and the text that it copies into a room, which grows until it is long enough."""
-    length = 1 << 16
     while True:
         room, wanted = ctypes.create_string_buffer(length), ctypes.c_size_t(0)
         code = call(*given, room, length, ctypes.byref(wanted))

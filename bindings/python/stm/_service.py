@@ -3,7 +3,6 @@
 from __future__ import annotations
 
 import ctypes
-import re
 import struct
 import sys
 import time
@@ -33,6 +32,7 @@ from ._declared import Answer
 from ._held import Held
 from ._keeper import Keeper, OnChapter
 from ._library import library, word
+from ._names import Declared, condition_name, declared_by, table_names
 from ._table import Table
 from ._told import Room, RoomOfLoop, RoomOfThread, Teller, main
 
@@ -75,17 +75,6 @@ class _Transaction(NamedTuple):
         except Exception as why:
             return why
         return TypeError(f"arguments of {self.name}: numbers wanted")
-
-
-def _declared_by(word: str, text: str) -> List[str]:
-    """The names that the file declares by this word, in order."""
-    tokens = re.findall(r"[()]|[^\s()]+", re.sub(r";[^\n]*", "", text))
-    names, depth = [], 0
-    for at, token in enumerate(tokens):
-        if token == "(" and depth == 0 and tokens[at + 1] == word:
-            names.append(tokens[at + 2])
-        depth += (token == "(") - (token == ")")
-    return names
 
 
 class Service:
@@ -131,8 +120,6 @@ class Service:
         observers: int = 0,
         on_chapter: Optional[Callable[[str, str], object]] = None,
     ) -> None:
-        self._text = text
-        self._names: Optional[List[str]] = None
         self._found: Dict[str, _Transaction] = {}
         self._on_chapter = None if on_chapter is None else OnChapter(on_chapter)
         keeps = None if on_chapter is None else ctypes.cast(library.stm_takes_chapters, ctypes.c_void_p)
@@ -241,7 +228,12 @@ class Service:
     @property
     def tables(self) -> List[str]:
         """The names of the tables, as declared."""
-        return _declared_by("table", self._text)
+        return table_names(self._program())
+
+    @property
+    def declared(self) -> Declared:
+        """What the program declares: `bank.declared.transactions["pay"]` are the names of its parameters."""
+        return declared_by(self._program())
 
     def table(self, name: str) -> Table:
         """The cells of a table, as a list that is only read: `bank.table("acct")[5]`."""
@@ -372,6 +364,10 @@ class Service:
         self._teller.give_back(room)
         raise fault from (self._failed() if isinstance(fault, NoRoom) else None)
 
+    def _program(self) -> ctypes.c_void_p:
+        """The program, which is there for as long as the service."""
+        return ctypes.c_void_p(library.stm_service_program(self._at))
+
     def _asks(self, call: Callable[..., int], *given: object) -> int:
         """What the library answers to a question."""
         return call(self._at, *given)
@@ -382,9 +378,7 @@ class Service:
         if answer.code == _declared.THROWN:
             return Thrown(answer.value, **entered)
         if answer.code == _declared.BROKEN:
-            if self._names is None:
-                self._names = _declared_by("always", self._text)
-            return Broken(self._names[answer.value], **entered)
+            return Broken(condition_name(self._program(), answer.value), **entered)
         return _SAME[answer.code](word(answer.code), **entered)
 
     def _present(self, name: str) -> tuple[int, int]:

@@ -8,7 +8,6 @@ import weakref
 
 import stm
 from helping import LONG, until, until_parked
-from stm import _service
 
 TEXT = """(stm 2) (var n 0) (var out 0) (var most 9223372036854775807)
 (always even_or_odd (le 0 n)) ; (always no (eq 0 1))
@@ -235,8 +234,10 @@ class Calls(unittest.TestCase):
         stm.Service("").close()
 
     def test_the_names_of_conditions(self):
-        text = "(stm 3) (always a (le 0 x)) ; (always b\n( always\n c (le 0 x)) (tx t (always d) (skip) always)"
-        self.assertEqual(_service._declared_by("always", text), ["a", "c"])
+        text = "(stm 3) (var x 0) (always a (le 0 x)) ; (always b\n( always\n c (le 0 x)) (tx t (always d) (skip) always)"
+        with stm.Service(text) as service:
+            self.assertEqual(service.declared.conditions, ["a", "c"])
+            self.assertEqual(service.declared.transactions, {"t": ["always", "d"]})
 
     def test_the_tasks_of_the_file_have_their_turns_first(self):
         with stm.Service(TEXT + " (run inc 3) (run wait 1)") as service:

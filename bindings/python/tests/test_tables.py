@@ -30,6 +30,22 @@ class Tables(unittest.TestCase):
         self.assertIn("\nacct[0] 40 1\nacct[3] 160 1\nend\n", report)
         self.assertTrue(stm.check(bank.file(), report))
 
+    def test_what_is_declared(self):
+        with stm.Service(TEXT) as bank:
+            declared = bank.declared
+            self.assertEqual((declared.variables, declared.tables), (["spare"], {"acct": 4, "rate": 2}))
+            self.assertEqual(declared.conditions, ["solvent"])
+            self.assertEqual(declared.transactions, {"pay": ["from", "to", "n"], "audit": []})
+            with self.assertRaises(stm.Broken) as broken:
+                bank.atomically("pay", [0, 1, 101])
+            self.assertEqual(broken.exception.condition, "solvent")
+        # A name as long as one may be, and as many variables as there may be, told one by one.
+        longest, last = "v" * 32, "c" * 32
+        with stm.Service(f"(stm 2) (var {longest} 0) (always {last} (le {longest} 0))") as one:
+            self.assertEqual((one.declared.variables, one.declared.conditions), ([longest], [last]))
+        with stm.Service("".join(f"(var x{i} 0)" for i in range(256))) as many:
+            self.assertEqual(many.declared.variables, [f"x{i}" for i in range(256)])
+
     def test_tables(self):
         with stm.Service(TEXT) as bank:
             self.assertEqual(bank.tables, ["acct", "rate"])

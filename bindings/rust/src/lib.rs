@@ -26,6 +26,7 @@
 mod answers;
 mod call;
 mod declare;
+mod declared;
 mod error;
 mod raw;
 mod service;
@@ -37,6 +38,7 @@ pub use declare::{
     and, div, eq, int, le, lt, not, or, or_else, param, rem, repeat, retry, seq, set, skip, sum, throw, var,
     when, Cond, Declare, Expr, Param, Stmt, Table, Tx, Var,
 };
+pub use declared::Declared;
 pub use error::{Error, Fault, FileFault, NotKept, ScheduleFault};
 pub use raw::{Counts, Part, Verdict};
 pub use service::{Receipts, Service, ServiceOptions};

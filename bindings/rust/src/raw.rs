@@ -6,6 +6,7 @@
 mod calls;
 mod code;
 mod explaining;
+mod names;
 mod service;
 
 pub use calls::RawCall;
@@ -13,6 +14,7 @@ pub use explaining::explain;
 pub use service::{Keep, RawService};
 
 use crate::answers::{Answer, Arguments, End, Entered, Job, Outcome, Standing, Ticket, Way};
+use crate::declared::Declared;
 use crate::error::{Error, ScheduleFault};
 use explaining::refused;
 use std::ffi::c_void;
@@ -384,6 +386,10 @@ impl RawProgram {
             code::DONE => Ok(RawProgram(out)),
             code => Err(refused(file, code)),
         }
+    }
+
+    pub fn declared(&self) -> Declared {
+        names::declared(&self.0)
     }
 
     pub fn tasks(&self) -> usize {

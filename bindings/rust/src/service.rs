@@ -2,6 +2,7 @@
 
 use crate::answers::Receipt;
 use crate::call::Call;
+use crate::declared::Declared;
 use crate::error::{Error, Fault, NotKept};
 use crate::raw::{Keep, RawService};
 use std::fmt::Debug;
@@ -90,7 +91,8 @@ impl ServiceOptions {
         self,
         mut keep: impl FnMut(&str, &str) -> Result<(), E> + Send + 'static,
     ) -> ServiceOptions {
-        let spelled = move |file: &str, report: &str| keep(file, report).map_err(|error| format!("{error:?}"));
+        let spelled =
+            move |file: &str, report: &str| keep(file, report).map_err(|error| format!("{error:?}"));
         ServiceOptions { keep: Some(Box::new(spelled)), ..self }
     }
 }
@@ -106,6 +108,11 @@ impl Service {
     pub fn open_with(text: &str, options: ServiceOptions) -> Result<Service, Error> {
         let ServiceOptions { room, checkpoint, observers, keep } = options;
         Ok(Service { raw: RawService::open(text.as_bytes(), room, checkpoint, observers, keep)? })
+    }
+
+    /// What its program declares.
+    pub fn declared(&self) -> Declared {
+        self.raw.declared()
     }
 
     /// The number of a transaction.

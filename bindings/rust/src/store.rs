@@ -1,6 +1,7 @@
 //! Programs, stores and workers, safe to use.
 
 use crate::answers::{Answer, Entered, Job, Outcome, Standing, Ticket, Way};
+use crate::declared::Declared;
 use crate::error::Error;
 use crate::raw::{Counts, RawProgram, RawStore, RawWorker};
 use std::sync::{Mutex, MutexGuard, PoisonError};
@@ -21,6 +22,11 @@ impl Program {
     /// The text that it was read from.
     pub fn text(&self) -> &str {
         &self.text
+    }
+
+    /// What it declares.
+    pub fn declared(&self) -> Declared {
+        self.raw.declared()
     }
 
     /// How many tasks it has, numbered from 0 in the order of the runs.

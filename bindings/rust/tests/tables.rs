@@ -24,6 +24,21 @@ const RATES: u32 = 2;
 const OWE: u32 = 3;
 
 #[test]
+fn what_is_declared() {
+    let program = declared().program().unwrap();
+    let found = program.declared();
+    let names = |names: &[&str]| names.iter().map(|name| name.to_string()).collect::<Vec<_>>();
+    assert_eq!(found.variables, names(&[]));
+    assert_eq!(found.tables, [("acct".to_string(), 4), ("rate".to_string(), 3)]);
+    assert_eq!(found.conditions, names(&["solvent"]));
+    let transactions: Vec<_> = found.transactions.iter().map(|(name, _)| name.clone()).collect();
+    assert_eq!(transactions, names(&["pay", "audit", "rates", "owe"]));
+    assert_eq!(found.transactions[0].1, names(&["from", "to", "n"]));
+    assert_eq!((found.transactions[1].1.len(), &found.transactions[3].1), (0, &names(&["n"])));
+    assert_eq!(Service::open(program.text()).unwrap().declared(), found);
+}
+
+#[test]
 fn cells_of_a_store() {
     let program = declared().program().unwrap();
     assert_eq!((program.tables(), program.table("acct"), program.table("rate")), (2, Some(0), Some(1)));

@@ -1,8 +1,9 @@
 -- The numbers of names, where a program declares them; how many cells a table has, and how many parameters a transaction.
 use Rattle.std.specs.Prelude.{◌≡◌, ◌<◌, ◌≤◌, ℕ, ℤ, pos, List, [], length, slice_index_or, Some, None, ◌⊎◌, IsUtf8}
+use Rattle.txn_programs.specs.declared.ast.AlwaysId.{AlwaysId}
 use Rattle.txn_programs.specs.declared.ast.TxId.{TxId}
 use Rattle.txn_programs.specs.declared.ast.VarId.{VarId}
-use Rattle.txn_programs.specs.Listing.{Listing, arity, table_named, transaction_at, variable_named, transaction_named}
+use Rattle.txn_programs.specs.Listing.{Listing, arity, condition_named, table_named, transaction_at, variable_named, transaction_named}
 use Rattle.stm_c.specs.Numbers.{not_there}
 
 -- the number of the variable of this name; else -9, where there is none; a name that is no text is none's
@@ -14,6 +15,11 @@ IsVariable l name n =
 abbrev pub IsTransaction : Listing → List ℕ → ℤ → Type 0
 IsTransaction l name n =
     ((t : TxId) × (transaction_named l name ≡ Some t) × (n ≡ pos t.0)) ⊎ ((n ≡ not_there) × (IsUtf8 name → transaction_named l name ≡ None))
+
+-- the number of the standing condition of this name; else -9, where there is none; a name that is no text is none's
+abbrev pub IsCondition : Listing → List ℕ → ℤ → Type 0
+IsCondition l name n =
+    ((c : AlwaysId) × (condition_named l name ≡ Some c) × (n ≡ pos c.0)) ⊎ ((n ≡ not_there) × (IsUtf8 name → condition_named l name ≡ None))
 
 -- the place of the table of this name; else -9, where there is none; a name that is no text is none's
 abbrev pub IsTable : Listing → List ℕ → ℤ → Type 0

@@ -19,6 +19,10 @@ use Rattle.stm_store.specs.declared.answers.Way.TheVariants as way
 abbrev pub out_of_memory : ℤ
 out_of_memory = negsuc 5
 
+-- -8: the room is too short, and how long it has to be was told
+abbrev pub too_short : ℤ
+too_short = negsuc 7
+
 -- -9: there is no such transaction, variable, table or cell; or the transaction has another number of parameters
 abbrev pub not_there : ℤ
 not_there = negsuc 8

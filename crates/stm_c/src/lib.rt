@@ -1,6 +1,6 @@
 //! The library as C and Rust hosts link it: whole files in, whole texts out (`checking`, `running`,
 //! `playing`, `exploring`, `explaining`); and a program, stores of it and their workers, for a host that has
-//! threads and a lock of its own (`reading`, `hosting`, `submitting`, `tasks`, `calling`,
+//! threads and a lock of its own (`reading`, `naming`, `hosting`, `submitting`, `tasks`, `calling`,
 //! `chapters`, `looking`, `trying`). No call starts a thread or takes a lock. What each answers in
 //! numbers stands in `codes`, and in the header for C; of a task in an `Answer`, of a job in a `Taken`.
 #![tactic(auto)]
@@ -25,6 +25,7 @@ mod hosting;
 mod jobs;
 mod lender_handle;
 mod looking;
+mod naming;
 mod parts;
 mod playing;
 mod program_handle;

@@ -1,8 +1,9 @@
 //! The calls of a service, which is the part of the library that is in C (`bindings/c/service.h`).
 
 use super::explaining::refused;
-use super::{code, outcome, text, Told};
+use super::{code, names, outcome, text, Handle, Told};
 use crate::answers::{Receipt, Ticket};
+use crate::declared::Declared;
 use crate::error::{Error, Fault, NotKept};
 use std::any::Any;
 use std::ffi::c_void;
@@ -36,6 +37,7 @@ extern "C" {
         options: *const Options,
         out: *mut *mut c_void,
     ) -> i32;
+    fn stm_service_program(service: *const c_void) -> *const Handle;
     fn stm_service_transaction(service: *const c_void, name: *const u8, name_length: usize) -> i64;
     fn stm_service_parameters(service: *const c_void, transaction: u32) -> i64;
     fn stm_atomically(service: *mut c_void, transaction: u32, arguments: *const i64, count: usize) -> Told;
@@ -190,6 +192,11 @@ impl RawService {
     /// Whether this process is a child of the one that has opened it.
     pub(super) fn is_of_another_process(&self) -> bool {
         self.process != std::process::id()
+    }
+
+    pub fn declared(&self) -> Declared {
+        // SAFETY: the program is there for as long as the service, which is borrowed, and is only read.
+        names::declared(unsafe { &*stm_service_program(self.at) })
     }
 
     pub fn transaction(&self, name: &str) -> Option<u32> {

@@ -1,0 +1,55 @@
+"""What a program declares, by its names. The library tells them: no text of a program is read here."""
+
+from __future__ import annotations
+
+import ctypes
+from typing import Callable, Dict, List, NamedTuple
+
+from ._files import copied
+from ._library import library
+
+
+class Declared(NamedTuple):
+    """What a program declares, each kind in the order of its text."""
+
+    variables: List[str]
+    # How many cells each has.
+    tables: Dict[str, int]
+    # The standing conditions.
+    conditions: List[str]
+    # The names of each one's parameters.
+    transactions: Dict[str, List[str]]
+
+
+def _name(call: Callable[..., int], program: ctypes.c_void_p, *numbers: int) -> str:
+    return copied(call, program, *numbers, length=256)[1]
+
+
+def _names(count: int, call: Callable[..., int], program: ctypes.c_void_p, *numbers: int) -> List[str]:
+    return [_name(call, program, *numbers, number) for number in range(count)]
+
+
+def condition_name(program: ctypes.c_void_p, number: int) -> str:
+    return _name(library.stm_program_condition_name, program, number)
+
+
+def table_names(program: ctypes.c_void_p) -> List[str]:
+    return _names(library.stm_program_tables(program), library.stm_program_table_name, program)
+
+
+def declared_by(program: ctypes.c_void_p) -> Declared:
+    tables = table_names(program)
+    transactions = _names(
+        library.stm_program_transactions(program), library.stm_program_transaction_name, program
+    )
+    return Declared(
+        _names(library.stm_program_variables(program), library.stm_program_variable_name, program),
+        {name: library.stm_program_cells(program, number) for number, name in enumerate(tables)},
+        _names(library.stm_program_conditions(program), library.stm_program_condition_name, program),
+        {name: _parameters(program, number) for number, name in enumerate(transactions)},
+    )
+
+
+def _parameters(program: ctypes.c_void_p, transaction: int) -> List[str]:
+    count = library.stm_program_parameters(program, transaction)
+    return _names(count, library.stm_program_parameter_name, program, transaction)
