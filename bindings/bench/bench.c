@@ -142,7 +142,7 @@ static void calls_and_turns(const stm_program *program) {
     turns = (now() - turns) / TASKS;
     stm_lender_free(&lender);
     stm_store_free(&store);
-    if (stm_read((const uint8_t *)NO_RUNS, strlen(NO_RUNS), &bare) != STM_DONE) fails("no program");
+    if (stm_read(NO_RUNS, strlen(NO_RUNS), &bare) != STM_DONE) fails("no program");
     if (stm_open_with_room(&bare, 1, 0, TASKS, &store) != STM_DONE || stm_open_lender(&store, &lender) != STM_DONE) fails("no store");
     double calls = now();
     for (int64_t i = 0; i < TASKS; i++) {
@@ -157,8 +157,8 @@ static void calls_and_turns(const stm_program *program) {
     printf(" turn_ns %.0f call_ns %.0f chapter_us %.1f", turns, calls, chapter / 1e3);
 }
 
-static uint8_t *report(double *cost, size_t *wanted) {
-    static uint8_t room[8388608];
+static char *report(double *cost, size_t *wanted) {
+    static char room[8388608];
     double begin = now();
     if (stm_report_now(&store, room, sizeof room, wanted) != STM_DONE) fails("no report");
     *cost = now() - begin;
@@ -170,7 +170,7 @@ static void by_store(int threads, void *(*life)(void *)) {
     stm_program program = {0};
     size_t length = strlen(FILE_TEXT), wanted = 0;
     double at = now(), told = 0;
-    if (stm_read((const uint8_t *)FILE_TEXT, length, &program) != STM_DONE) fails("no program");
+    if (stm_read(FILE_TEXT, length, &program) != STM_DONE) fails("no program");
     double read = now() - at;
     at = now();
     if (stm_open(&program, (size_t)threads, 0, &store) != STM_DONE) fails("no store");
@@ -179,8 +179,8 @@ static void by_store(int threads, void *(*life)(void *)) {
     }
     if (stm_open_lender(&store, &lender) != STM_DONE) fails("no lender");
     double open = now() - at, ran = by_threads(threads, life, workers);
-    uint8_t *text = report(&told, &wanted);
-    if (stm_check((const uint8_t *)FILE_TEXT, length, text, wanted) != STM_DONE) fails("the report is bad");
+    char *text = report(&told, &wanted);
+    if (stm_check(FILE_TEXT, length, text, wanted) != STM_DONE) fails("the report is bad");
     printf("read_ms %.3f open_ms %.3f run_ms %.3f report_ms %.3f", read / 1e6, open / 1e6, ran / 1e6, told / 1e6);
     for (int i = 0; i < threads; i++) stm_worker_free(&workers[i]);
     stm_lender_free(&lender);
@@ -249,7 +249,7 @@ int main(int count, char **words) {
     } else if (strcmp(words[1], "turns") == 0) {
         by_store(threads, turn);
     } else if (strcmp(words[1], "service") == 0) {
-        if (stm_service_open((const uint8_t *)NO_RUNS, strlen(NO_RUNS), NULL, &service) != STM_DONE) fails("no service");
+        if (stm_service_open(NO_RUNS, strlen(NO_RUNS), NULL, &service) != STM_DONE) fails("no service");
         by_peer(threads, by_service);
     } else if (strcmp(words[1], "mutex") == 0) {
         by_peer(threads, by_mutex);

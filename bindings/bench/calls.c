@@ -27,7 +27,7 @@ static const char BUFFERS_TEXT[] =
 
 static int offers(const char *workload) { return workload != NULL; }
 
-static void opens(const uint8_t *text, size_t length);
+static void opens(const char *text, size_t length);
 
 static void set_up(int64_t cells, int64_t first, int unused) {
     static char text[2048];
@@ -40,18 +40,18 @@ static void set_up(int64_t cells, int64_t first, int unused) {
         snprintf(text, sizeof text, BUFFERS_TEXT, all, each, each, p, each, each, p, each, each, each, each, each, each,
                  each, each, p);
     }
-    opens((const uint8_t *)text, strlen(text));
+    opens(text, strlen(text));
 }
 
 #ifdef RUST
-void rust_opens(const uint8_t *text, size_t length);
+void rust_opens(const char *text, size_t length);
 int64_t rust_pays(int64_t from, int64_t to, int64_t amount);
 int64_t rust_audits(void);
 void rust_puts(int64_t buffer, int64_t value);
 int64_t rust_gets(int64_t buffer);
 int64_t rust_value(int64_t index);
 
-static void opens(const uint8_t *text, size_t length) { rust_opens(text, length); }
+static void opens(const char *text, size_t length) { rust_opens(text, length); }
 static int64_t transfer(int64_t from, int64_t to, int64_t amount) { return rust_pays(from, to, amount); }
 static int64_t audit(void) { return rust_audits(); }
 static void put(int64_t buffer, int64_t value) { rust_puts(buffer, value); }
@@ -63,10 +63,10 @@ static stm_service *service;
 static uint32_t tx_pay, tx_audit, tx_put, tx_get;
 
 static uint32_t named(const char *name) {
-    return (uint32_t)stm_service_transaction(service, (const uint8_t *)name, strlen(name));
+    return (uint32_t)stm_service_transaction(service, name, strlen(name));
 }
 
-static void opens(const uint8_t *text, size_t length) {
+static void opens(const char *text, size_t length) {
     int32_t code = stm_service_open(text, length, NULL, &service);
     if (code != STM_DONE) {
         fprintf(stderr, "calls: %s\n", stm_word(code));
@@ -98,7 +98,7 @@ static int64_t cell(int64_t index) {
     int64_t value = -1;
     uint64_t version;
     int length = snprintf(name, sizeof name, "acct[%lld]", (long long)index);
-    stm_service_value(service, (const uint8_t *)name, (size_t)length, &value, &version);
+    stm_service_value(service, name, (size_t)length, &value, &version);
     return value;
 }
 

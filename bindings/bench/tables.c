@@ -79,7 +79,7 @@ static void opens(int accounts, size_t workers) {
     snprintf(text, sizeof text, "(stm 3)(table acct %d 100)%s%s", accounts, PAY, accounts <= FEW ? FOLDS : "");
     opened_with = most = held;
     double begin = now();
-    if (stm_read((const uint8_t *)text, strlen(text), &program) != STM_DONE) fails("no program");
+    if (stm_read(text, strlen(text), &program) != STM_DONE) fails("no program");
     double read = now();
     if (stm_open_with_room(&program, workers, 0, ROOM, &store) != STM_DONE) fails("no store");
     open_ns = now() - read;
@@ -103,7 +103,7 @@ static void calls(uint32_t transaction, const int64_t *given, size_t count) {
 }
 
 static uint32_t named(const char *name) {
-    return (uint32_t)stm_program_transaction(&program, (const uint8_t *)name, strlen(name));
+    return (uint32_t)stm_program_transaction(&program, name, strlen(name));
 }
 
 /* So many calls: how many nanoseconds each takes. */

@@ -155,11 +155,11 @@ int main(int count, char **words) {
     int64_t calls = count > 1 ? atoll(words[1]) : 60000;
     long threads = count > 2 ? atol(words[2]) : 1000;
     double bytes[2], more[2];
-    if (stm_service_open((const uint8_t *)TEXT, strlen(TEXT), NULL, &service) != STM_DONE) fails("it is not opened");
+    if (stm_service_open(TEXT, strlen(TEXT), NULL, &service) != STM_DONE) fails("it is not opened");
     double start = begins(calls, is_told, bytes);
     double wake = wakes(calls, is_told);
     stm_service_free(service);
-    if (stm_service_open((const uint8_t *)TEXT, strlen(TEXT), NULL, &service) != STM_DONE) fails("it is not opened");
+    if (stm_service_open(TEXT, strlen(TEXT), NULL, &service) != STM_DONE) fails("it is not opened");
     begins(calls, NULL, more);
     double by_told = wakes(calls, NULL);
     stm_service_free(service);

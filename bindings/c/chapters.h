@@ -6,7 +6,7 @@
 
 /* ---- What the host is told ---- */
 
-typedef int32_t copies(stm_ended *, uint8_t *, size_t, size_t *);
+typedef int32_t copies(stm_ended *, char *, size_t, size_t *);
 
 /* Copies a text of the chapter, into a longer room where it has to be. */
 static int32_t copy(struct text *text, stm_ended *ended, copies *by) {
@@ -39,7 +39,7 @@ static int32_t tell_host(stm_service *s, stm_ended *ended) {
     return failed ? STM_NO_ROOM : STM_DONE;
 }
 
-int stm_takes_chapters(void *own, const uint8_t *file, size_t file_length, const uint8_t *report,
+int stm_takes_chapters(void *own, const char *file, size_t file_length, const char *report,
                        size_t report_length) {
     (void)own, (void)file, (void)file_length, (void)report, (void)report_length;
     return 1;
@@ -47,7 +47,7 @@ int stm_takes_chapters(void *own, const uint8_t *file, size_t file_length, const
 
 static bool takes_chapters(const stm_service *s) { return s->options.ended == stm_takes_chapters; }
 
-int stm_ask_keeper(void *own, const uint8_t *file, size_t file_length, const uint8_t *report, size_t report_length) {
+int stm_ask_keeper(void *own, const char *file, size_t file_length, const char *report, size_t report_length) {
     stm_keeper *keeper = own;
     keeper->file = file;
     keeper->file_length = file_length;

@@ -96,11 +96,11 @@ uint64_t stm_ended_chapter(stm_ended *ended);
 
 /* Copies the chapter's file, or its report, into the room: as `stm_file`. STM_FILE_TOO_LONG. The two are a pair that
  * `stm_check` finds good. */
-int32_t stm_ended_file(stm_ended *ended, uint8_t *room, size_t room_length, size_t *wanted);
-int32_t stm_ended_report(stm_ended *ended, uint8_t *room, size_t room_length, size_t *wanted);
+int32_t stm_ended_file(stm_ended *ended, char *room, size_t room_length, size_t *wanted);
+int32_t stm_ended_report(stm_ended *ended, char *room, size_t room_length, size_t *wanted);
 
 /* What is seen of a desk is as of a store. */
-int32_t stm_desk_value(stm_desk *desk, const uint8_t *name, size_t name_length, int64_t *value, uint64_t *version);
+int32_t stm_desk_value(stm_desk *desk, const char *name, size_t name_length, int64_t *value, uint64_t *version);
 int32_t stm_desk_cell(stm_desk *desk, uint32_t table, uint32_t index, int64_t *value, uint64_t *version);
 int64_t stm_desk_cells(stm_desk *desk, uint32_t table, uint32_t from, int64_t *values, size_t count);
 int32_t stm_desk_counts(stm_desk *desk, stm_counts *out);
@@ -109,8 +109,8 @@ uint64_t stm_desk_chapter(stm_desk *desk);
 uint64_t stm_desk_entered(stm_desk *desk);
 
 /* Report and file of the present chapter, as of a store, once what is long and runs has had its turn. */
-int32_t stm_desk_report(stm_desk *desk, uint8_t *room, size_t room_length, size_t *wanted);
-int32_t stm_desk_file(stm_desk *desk, uint8_t *room, size_t room_length, size_t *wanted);
+int32_t stm_desk_report(stm_desk *desk, char *room, size_t room_length, size_t *wanted);
+int32_t stm_desk_file(stm_desk *desk, char *room, size_t room_length, size_t *wanted);
 
 /* Let go, and leave the handle empty. An empty one stays so. */
 void stm_desk_free(stm_desk *desk);

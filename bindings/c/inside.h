@@ -10,7 +10,7 @@
 
 /* A text, in a room that grows with it. */
 struct text {
-    uint8_t *at;
+    char *at;
     size_t room, length;
 };
 
@@ -52,6 +52,8 @@ struct stm_service {
     stm_desk desk;
     /* How many calls the desk has to tell something, and how many of them are long. */
     size_t waiting, long_ones;
+    /* How often one of them was entered, and how often what a long one had read was changed meanwhile. */
+    uint64_t woken, stale;
     /* Those of them that wait without a thread, by their tickets. */
     struct table started;
     struct told told;

@@ -20,7 +20,7 @@ const stm_program *stm_service_program(const stm_service *service) {
     return &service->program;
 }
 
-int64_t stm_service_transaction(const stm_service *service, const uint8_t *name, size_t name_length) {
+int64_t stm_service_transaction(const stm_service *service, const char *name, size_t name_length) {
     stm_service *s = entered(service);
     return left(s, stm_program_transaction(&s->program, name, name_length));
 }
@@ -30,7 +30,7 @@ int64_t stm_service_parameters(const stm_service *service, uint32_t transaction)
     return left(s, stm_program_parameters(&s->program, transaction));
 }
 
-int64_t stm_service_table(const stm_service *service, const uint8_t *name, size_t name_length) {
+int64_t stm_service_table(const stm_service *service, const char *name, size_t name_length) {
     stm_service *s = entered(service);
     return left(s, stm_program_table(&s->program, name, name_length));
 }
@@ -40,7 +40,7 @@ int64_t stm_service_table_length(const stm_service *service, uint32_t table) {
     return left(s, stm_program_cells(&s->program, table));
 }
 
-int32_t stm_service_value(stm_service *s, const uint8_t *name, size_t name_length, int64_t *value, uint64_t *version) {
+int32_t stm_service_value(stm_service *s, const char *name, size_t name_length, int64_t *value, uint64_t *version) {
     lock(s);
     int32_t code = stm_desk_value(&s->desk, name, name_length, value, version);
     unlock_and_leave(s);
@@ -71,10 +71,17 @@ static uint64_t number_of(stm_service *s, uint64_t (*of)(stm_desk *)) {
 uint64_t stm_service_entered(stm_service *s) { return number_of(s, stm_desk_entered); }
 uint64_t stm_service_chapter(stm_service *s) { return number_of(s, stm_desk_chapter); }
 
-typedef int32_t tells(stm_desk *, uint8_t *, size_t, size_t *);
+void stm_service_get_counts(stm_service *s, stm_service_counts *out) {
+    lock(s);
+    *out = (stm_service_counts){stm_desk_entered(&s->desk), stm_desk_chapter(&s->desk), s->waiting,
+                                s->woken,                   s->stale,                   stm_desk_spare(&s->desk)};
+    unlock_and_leave(s);
+}
+
+typedef int32_t tells(stm_desk *, char *, size_t, size_t *);
 
 /* What runs has its turn first, so that file and report are of one moment where nothing comes between. */
-static int32_t text_of(stm_service *s, tells *by, uint8_t *room, size_t room_length, size_t *wanted) {
+static int32_t text_of(stm_service *s, tells *by, char *room, size_t room_length, size_t *wanted) {
     lock(s);
     int32_t code = by(&s->desk, room, room_length, wanted);
     hand_on(s);
@@ -82,11 +89,11 @@ static int32_t text_of(stm_service *s, tells *by, uint8_t *room, size_t room_len
     return code;
 }
 
-int32_t stm_service_report(stm_service *s, uint8_t *room, size_t room_length, size_t *wanted) {
+int32_t stm_service_report(stm_service *s, char *room, size_t room_length, size_t *wanted) {
     return text_of(s, stm_desk_report, room, room_length, wanted);
 }
 
-int32_t stm_service_file(stm_service *s, uint8_t *room, size_t room_length, size_t *wanted) {
+int32_t stm_service_file(stm_service *s, char *room, size_t room_length, size_t *wanted) {
     return text_of(s, stm_desk_file, room, room_length, wanted);
 }
 

@@ -133,7 +133,7 @@ static int32_t open_store(stm_service *s, stm_store *store) {
     return open_workers(&s->workers, store, s->options.observers, stm_program_transactions(&s->program) > 0);
 }
 
-static int32_t open_desk(stm_service *s, const uint8_t *file, size_t file_length) {
+static int32_t open_desk(stm_service *s, const char *file, size_t file_length) {
     stm_store store = {0};
     uint32_t *observers = &s->options.observers;
     if (*observers > MOST_WORKERS) return STM_NO_WORKER;
@@ -157,7 +157,7 @@ static void let_go(stm_service *s) {
     rattle_dealloc(s->block);
 }
 
-int32_t stm_service_open(const uint8_t *file, size_t file_length, const stm_service_options *options,
+int32_t stm_service_open(const char *file, size_t file_length, const stm_service_options *options,
                          stm_service **out) {
     *out = NULL;
     struct block block = rattle_alloc(sizeof(stm_service) + LINE, 16);

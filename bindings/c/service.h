@@ -51,12 +51,12 @@ typedef struct stm_service_options {
      * by each call that finds the next chapter full too, until it is kept, and once by each `stm_service_close`: so who
      * has written the chapter down and fails then is told it twice. NULL: none. The last chapter does not end: ask for
      * its file and report when the service is closed. */
-    int (*ended)(void *own, const uint8_t *file, size_t file_length, const uint8_t *report, size_t report_length);
+    int (*ended)(void *own, const char *file, size_t file_length, const char *report, size_t report_length);
     void *own;
 } stm_service_options;
 
 /* As `ended`, where the host takes the chapters that ended (`stm_told_chapter`): nobody calls it. */
-int stm_takes_chapters(void *own, const uint8_t *file, size_t file_length, const uint8_t *report,
+int stm_takes_chapters(void *own, const char *file, size_t file_length, const char *report,
                        size_t report_length);
 
 /* For a host in a language whose callback can be stopped before its first line, so that what it answers is not known: a
@@ -65,19 +65,19 @@ int stm_takes_chapters(void *own, const uint8_t *file, size_t file_length, const
 typedef struct stm_keeper {
     void (*asked)(void *own);
     void *own;
-    const uint8_t *file;
+    const char *file;
     size_t file_length;
-    const uint8_t *report;
+    const char *report;
     size_t report_length;
     int32_t kept;
 } stm_keeper;
 
-int stm_ask_keeper(void *own, const uint8_t *file, size_t file_length, const uint8_t *report, size_t report_length);
+int stm_ask_keeper(void *own, const char *file, size_t file_length, const char *report, size_t report_length);
 
 /* Opens a service of the file, with these options or, with NULL, with 0 for each; and gives the runs of the file their
  * turns: STM_DONE, and `out` has the service. Else `out` has NULL: STM_FILE_TOO_LONG .. STM_FILE_BROKEN, STM_MEMORY;
  * STM_NO_ROOM: a chapter can't have room for so many tasks; STM_NO_WORKER: more than 32 observers. */
-int32_t stm_service_open(const uint8_t *file, size_t file_length, const stm_service_options *options,
+int32_t stm_service_open(const char *file, size_t file_length, const stm_service_options *options,
                          stm_service **out);
 
 /* The program of the service, to be asked what it declares (`stm_program_transaction_name`, ..). It is the service's own,
@@ -85,7 +85,7 @@ int32_t stm_service_open(const uint8_t *file, size_t file_length, const stm_serv
 const stm_program *stm_service_program(const stm_service *service);
 
 /* The number of the transaction of this name, or STM_UNKNOWN; and how many parameters it has, or STM_UNKNOWN. */
-int64_t stm_service_transaction(const stm_service *service, const uint8_t *name, size_t name_length);
+int64_t stm_service_transaction(const stm_service *service, const char *name, size_t name_length);
 int64_t stm_service_parameters(const stm_service *service, uint32_t transaction);
 
 /* Runs the transaction as one atomic step; where it retries, the thread waits until it was entered. It is given a
@@ -210,11 +210,11 @@ stm_answer stm_service_observe(stm_service *service, uint32_t transaction, const
 
 /* The present value of a variable, or of the cell that is written so, as `acct[5]`, and the number of the last entry of
  * the chapter that changed it, 0 where none did: STM_DONE; STM_UNKNOWN. */
-int32_t stm_service_value(stm_service *service, const uint8_t *name, size_t name_length, int64_t *value,
+int32_t stm_service_value(stm_service *service, const char *name, size_t name_length, int64_t *value,
                           uint64_t *version);
 
 /* The number of the table of this name, or STM_UNKNOWN; and how many cells it has, numbered from 0, or STM_UNKNOWN. */
-int64_t stm_service_table(const stm_service *service, const uint8_t *name, size_t name_length);
+int64_t stm_service_table(const stm_service *service, const char *name, size_t name_length);
 int64_t stm_service_table_length(const stm_service *service, uint32_t table);
 
 /* As `stm_service_value`, of the cell `index` of a table. */
@@ -228,11 +228,21 @@ int64_t stm_service_cells(stm_service *service, uint32_t table, uint32_t from, i
 uint64_t stm_service_entered(stm_service *service);
 uint64_t stm_service_chapter(stm_service *service);
 
+/* Counts of one moment: the entries in all chapters; the number of the chapter; the calls that wait for what others
+ * commit, or whose long transaction is evaluated; how often one that waited was entered; how often what a long
+ * transaction had read was changed meanwhile, so that it was evaluated once more; and how many tasks more the chapter
+ * has room for. */
+typedef struct stm_service_counts {
+    uint64_t entered, chapter, waiting, woken, stale, room;
+} stm_service_counts;
+
+void stm_service_get_counts(stm_service *service, stm_service_counts *out);
+
 /* Copies the report, or the file, of the present chapter into the room, as `stm_report_now` and `stm_file` do. Others
  * may commit between two calls, so the text may have grown after STM_SHORT. Once the service is closed the two are a
  * pair, which `stm_check` finds good. */
-int32_t stm_service_report(stm_service *service, uint8_t *room, size_t room_length, size_t *wanted);
-int32_t stm_service_file(stm_service *service, uint8_t *room, size_t room_length, size_t *wanted);
+int32_t stm_service_report(stm_service *service, char *room, size_t room_length, size_t *wanted);
+int32_t stm_service_file(stm_service *service, char *room, size_t room_length, size_t *wanted);
 
 /* Each call that waits and each later one answers STM_CLOSED, and no transaction is entered any more: one that is
  * evaluated just then is given up. The calls from `stm_service_value` to `stm_service_file` go on. It comes back when

@@ -10,7 +10,8 @@
  *      never written.
  *   3. No pointer is null (`out`, `wanted`, `value` and `version` neither), but one that goes with a length or
  *      a count of 0: `NULL, 0` for the room asks how much is wanted, for the arguments gives none. A pointer that
- *      goes with a length is to that many bytes, one that goes with a count to that many numbers.
+ *      goes with a length is to that many bytes, one that goes with a count to that many numbers. A text needs no 0
+ *      behind it, and one that is copied into a room gets none.
  *   4. What a call may write (a handle that is not `const`, a room, `out`, `wanted`, `value`, `version`,
  *      `values`) overlaps nothing else that it is given.
  *   5. A call has 64 KB of stack, whatever the file, and one that opens a desk 96 KB: the deepest files that the
@@ -163,12 +164,12 @@ const char *stm_word(int32_t code);
 
 /* Runs all tasks of the file on the calling thread, and copies the report into the room. A journal of
  * `checkpoint` entries is followed by a checkpoint; 0: never. */
-int32_t stm_run_one(const uint8_t *file, size_t file_length, uint32_t checkpoint, uint8_t *room,
+int32_t stm_run_one(const char *file, size_t file_length, uint32_t checkpoint, char *room,
                     size_t room_length, size_t *wanted);
 
 /* Whether the report is lawful for the file: STM_DONE, or STM_BAD_TEXT .. STM_BAD_PARKED, by the first part that
  * does not hold. */
-int32_t stm_check(const uint8_t *file, size_t file_length, const uint8_t *report, size_t report_length);
+int32_t stm_check(const char *file, size_t file_length, const char *report, size_t report_length);
 
 /* Where and why a file is refused: by its first fault, STM_FILE_TOO_LONG .. STM_FILE_BROKEN; its line and column, both
  * from 1 and in bytes; and how many bytes stand before it. All are 0 of a file that is read. */
@@ -181,22 +182,22 @@ typedef struct stm_explained {
  * `stm explain` prints them: `line 3, column 12: F3 Shape: ` and what is wanted there. No newline and no 0 stand behind
  * them. Of a file that is read there are no words. It takes some times as long as reading. With STM_SHORT `out` is
  * written too; STM_MEMORY. */
-int32_t stm_explain(const uint8_t *file, size_t file_length, stm_explained *out, uint8_t *room, size_t room_length,
+int32_t stm_explain(const char *file, size_t file_length, stm_explained *out, char *room, size_t room_length,
                     size_t *wanted);
 
 /* Plays the schedule on the stepped world of the file, and copies what is seen into the room. */
-int32_t stm_world(const uint8_t *file, size_t file_length, const uint8_t *schedule, size_t schedule_length,
-                  uint8_t *room, size_t room_length, size_t *wanted);
+int32_t stm_world(const char *file, size_t file_length, const char *schedule, size_t schedule_length,
+                  char *room, size_t room_length, size_t *wanted);
 
 /* Sees every order of the file's tasks, and copies what is found into the room: STM_DONE. At most `states`
  * states are looked at: STM_MORE where more are reached. What is found may be long, so call first with
  * `NULL, 0` for the room where there is no good guess. */
-int32_t stm_explore(const uint8_t *file, size_t file_length, uint32_t states, uint8_t *room, size_t room_length,
+int32_t stm_explore(const char *file, size_t file_length, uint32_t states, char *room, size_t room_length,
                     size_t *wanted);
 
 /* Copies the report of a run that comes to the end of this number, counted from 1 as `stm_explore` lists
  * them, by as few turns as any order has to it: STM_DONE, STM_MORE, STM_NO_END. */
-int32_t stm_explore_to(const uint8_t *file, size_t file_length, uint32_t states, size_t end, uint8_t *room,
+int32_t stm_explore_to(const char *file, size_t file_length, uint32_t states, size_t end, char *room,
                        size_t room_length, size_t *wanted);
 
 /* Handles. Each is one pointer that only the library reads; `{0}` is an empty one. Each call answers
@@ -207,7 +208,7 @@ typedef struct stm_worker { void *at; } stm_worker;
 typedef struct stm_lender { void *at; } stm_lender;
 
 /* Reads a program. */
-int32_t stm_read(const uint8_t *file, size_t file_length, stm_program *out);
+int32_t stm_read(const char *file, size_t file_length, stm_program *out);
 
 /* How many tasks, variables, tables, standing conditions and transactions a program has. 0 of an empty handle. */
 size_t stm_program_tasks(const stm_program *program);
@@ -221,22 +222,22 @@ int64_t stm_program_cells(const stm_program *program, uint32_t table);
 
 /* The number of the variable, the table, the standing condition or the transaction of this name, or STM_UNKNOWN. They
  * are numbered from 0, as declared. */
-int64_t stm_program_variable(const stm_program *program, const uint8_t *name, size_t name_length);
-int64_t stm_program_table(const stm_program *program, const uint8_t *name, size_t name_length);
-int64_t stm_program_condition(const stm_program *program, const uint8_t *name, size_t name_length);
-int64_t stm_program_transaction(const stm_program *program, const uint8_t *name, size_t name_length);
+int64_t stm_program_variable(const stm_program *program, const char *name, size_t name_length);
+int64_t stm_program_table(const stm_program *program, const char *name, size_t name_length);
+int64_t stm_program_condition(const stm_program *program, const char *name, size_t name_length);
+int64_t stm_program_transaction(const stm_program *program, const char *name, size_t name_length);
 
 /* The name of the variable, the table, the standing condition or the transaction of this number, or of a parameter of a
  * transaction: copied into the room, with no 0 behind it, and `wanted` is its length. STM_SHORT; STM_UNKNOWN. */
-int32_t stm_program_variable_name(const stm_program *program, uint32_t variable, uint8_t *room, size_t room_length,
+int32_t stm_program_variable_name(const stm_program *program, uint32_t variable, char *room, size_t room_length,
                                   size_t *wanted);
-int32_t stm_program_table_name(const stm_program *program, uint32_t table, uint8_t *room, size_t room_length,
+int32_t stm_program_table_name(const stm_program *program, uint32_t table, char *room, size_t room_length,
                                size_t *wanted);
-int32_t stm_program_condition_name(const stm_program *program, uint32_t condition, uint8_t *room, size_t room_length,
+int32_t stm_program_condition_name(const stm_program *program, uint32_t condition, char *room, size_t room_length,
                                    size_t *wanted);
-int32_t stm_program_transaction_name(const stm_program *program, uint32_t transaction, uint8_t *room,
+int32_t stm_program_transaction_name(const stm_program *program, uint32_t transaction, char *room,
                                      size_t room_length, size_t *wanted);
-int32_t stm_program_parameter_name(const stm_program *program, uint32_t transaction, uint32_t parameter, uint8_t *room,
+int32_t stm_program_parameter_name(const stm_program *program, uint32_t transaction, uint32_t parameter, char *room,
                                    size_t room_length, size_t *wanted);
 
 /* How many parameters the transaction has, at most 8; STM_UNKNOWN. */
@@ -274,7 +275,7 @@ int32_t stm_get_counts(stm_store *store, stm_counts *out);
 
 /* The present value of the variable of this name, or of the cell that is written so, as `acct[5]`, and the number of the
  * last entry that changed it, 0 where none did: STM_DONE, and both were written; STM_UNKNOWN. Under the lock. */
-int32_t stm_value(stm_store *store, const uint8_t *name, size_t name_length, int64_t *value, uint64_t *version);
+int32_t stm_value(stm_store *store, const char *name, size_t name_length, int64_t *value, uint64_t *version);
 
 /* As `stm_value`, of the cell `index` of a table, both counted from 0. Under the lock. */
 int32_t stm_cell(stm_store *store, uint32_t table, uint32_t index, int64_t *value, uint64_t *version);
@@ -352,14 +353,14 @@ int32_t stm_checkpoint(stm_store *store);
 
 /* Gives each task that is ready or running a turn, and copies the report into the room. Under the
  * lock. Where the answer is STM_SHORT, call again with room for `wanted` bytes. */
-int32_t stm_report(stm_store *store, uint8_t *room, size_t room_length, size_t *wanted);
+int32_t stm_report(stm_store *store, char *room, size_t room_length, size_t *wanted);
 
 /* As `stm_report`, with no turn given: STM_WORK_LEFT exactly where a task is ready or running. Under the lock. */
-int32_t stm_report_now(stm_store *store, uint8_t *room, size_t room_length, size_t *wanted);
+int32_t stm_report_now(stm_store *store, char *room, size_t room_length, size_t *wanted);
 
 /* Copies the file as it has become, with a run for each task that was submitted, into the room: with the
  * report of the same moment a pair that `stm_check` finds good. STM_FILE_TOO_LONG. Under the lock. */
-int32_t stm_file(stm_store *store, uint8_t *room, size_t room_length, size_t *wanted);
+int32_t stm_file(stm_store *store, char *room, size_t room_length, size_t *wanted);
 
 /* How the call would end on one state, with no lock: STM_DONE with the value that it returns, STM_RETRIES,
  * STM_STALE, STM_THROWN .. STM_BROKEN, STM_OUTSIDE, STM_MEMORY, STM_UNKNOWN. There is no task. */

@@ -33,6 +33,7 @@ static void hand_on(stm_service *s) {
         stm_desk_told told = stm_desk_next_told(&s->desk);
         struct call *call = place_of(told.whose);
         if (!call) break;
+        s->woken += told.answer.entry > 0;
         if (is_started(told.whose)) {
             end_started(s, place_of(told.whose), told.answer);
             continue;
@@ -100,6 +101,7 @@ static int32_t evaluate(stm_service *s, stm_worker *worker, const stm_job *job, 
         if (is_past(until)) return STM_TIMED_OUT;
         if (code == STM_DONE) code = stm_desk_bring(&s->desk, worker);
         if (code != STM_STALE) return code;
+        s->stale++;
     }
     return stm_desk_run_now(&s->desk, *job);
 }

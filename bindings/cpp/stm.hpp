@@ -121,14 +121,6 @@ namespace detail {
 [[noreturn]] inline void raise(const explained &) { std::abort(); }
 #endif
 
-inline const std::uint8_t *bytes(std::string_view text) noexcept {
-    return reinterpret_cast<const std::uint8_t *>(text.data());
-}
-
-inline std::string_view text_of(const std::uint8_t *at, std::size_t length) noexcept {
-    return {reinterpret_cast<const char *>(at), length};
-}
-
 } // namespace detail
 
 /// A value, or the code that says why there is none.
@@ -258,7 +250,7 @@ template <class Call> answer<std::string> text(Call call) {
     std::string room(std::size_t{1} << 12, '\0');
     for (;;) {
         std::size_t wanted = 0;
-        std::int32_t code = call(reinterpret_cast<std::uint8_t *>(room.data()), room.size(), &wanted);
+        std::int32_t code = call(room.data(), room.size(), &wanted);
         room.resize(wanted);
         if (code == STM_SHORT) continue;
         if (code == STM_DONE || code == STM_MORE) return answer<std::string>(std::move(room), code);
@@ -271,8 +263,8 @@ template <class Call> answer<std::string> text(Call call) {
 /// Where and why the file is refused, if it is; `STM_MEMORY`. A call that has refused a file says so by itself (`why`).
 inline answer<explained> explain(std::string_view file) {
     stm_explained told = {0, 0, 0, 0};
-    auto words = detail::text([&](std::uint8_t *room, std::size_t length, std::size_t *wanted) {
-        return stm_explain(detail::bytes(file), file.size(), &told, room, length, wanted);
+    auto words = detail::text([&](char *room, std::size_t length, std::size_t *wanted) {
+        return stm_explain(file.data(), file.size(), &told, room, length, wanted);
     });
     if (!words) return answer<explained>::none(words.code());
     return answer<explained>(explained{told.code, told.line, told.column, told.place, std::move(*words)});
@@ -299,37 +291,36 @@ template <class Call> answer<std::string> text_of_file(std::string_view file, Ca
 /// The report of all tasks of the file, one after another on this thread. A journal of `checkpoint` entries is followed
 /// by a checkpoint; 0: never.
 inline answer<std::string> run(std::string_view file, std::uint32_t checkpoint = 0) {
-    return detail::text_of_file(file, [&](std::uint8_t *room, std::size_t length, std::size_t *wanted) {
-        return stm_run_one(detail::bytes(file), file.size(), checkpoint, room, length, wanted);
+    return detail::text_of_file(file, [&](char *room, std::size_t length, std::size_t *wanted) {
+        return stm_run_one(file.data(), file.size(), checkpoint, room, length, wanted);
     });
 }
 
 /// Whether the report is lawful for the file.
 inline verdict check(std::string_view file, std::string_view report) {
-    auto code = stm_check(detail::bytes(file), file.size(), detail::bytes(report), report.size());
+    auto code = stm_check(file.data(), file.size(), report.data(), report.size());
     return verdict(code, detail::why(file, code));
 }
 
 /// What is seen of the schedule on the stepped world of the file.
 inline answer<std::string> world(std::string_view file, std::string_view schedule) {
-    const std::uint8_t *events = detail::bytes(schedule);
-    return detail::text_of_file(file, [&](std::uint8_t *room, std::size_t length, std::size_t *wanted) {
-        return stm_world(detail::bytes(file), file.size(), events, schedule.size(), room, length, wanted);
+    return detail::text_of_file(file, [&](char *room, std::size_t length, std::size_t *wanted) {
+        return stm_world(file.data(), file.size(), schedule.data(), schedule.size(), room, length, wanted);
     });
 }
 
 /// What is found when every order of the file's tasks is seen, of at most so many states. Where more are reached the
 /// code is `STM_MORE`, and the text says so.
 inline answer<std::string> explore(std::string_view file, std::uint32_t states) {
-    return detail::text_of_file(file, [&](std::uint8_t *room, std::size_t length, std::size_t *wanted) {
-        return stm_explore(detail::bytes(file), file.size(), states, room, length, wanted);
+    return detail::text_of_file(file, [&](char *room, std::size_t length, std::size_t *wanted) {
+        return stm_explore(file.data(), file.size(), states, room, length, wanted);
     });
 }
 
 /// The report of a run that comes to the end of this number, counted from 1 as `explore` lists them.
 inline answer<std::string> explore_to(std::string_view file, std::uint32_t states, std::size_t end) {
-    return detail::text_of_file(file, [&](std::uint8_t *room, std::size_t length, std::size_t *wanted) {
-        return stm_explore_to(detail::bytes(file), file.size(), states, end, room, length, wanted);
+    return detail::text_of_file(file, [&](char *room, std::size_t length, std::size_t *wanted) {
+        return stm_explore_to(file.data(), file.size(), states, end, room, length, wanted);
     });
 }
 
@@ -395,7 +386,7 @@ public:
         made->keep = std::move(how.on_chapter);
         auto *hook = made->keep ? ended : nullptr;
         stm_service_options given = {how.room, how.checkpoint, how.observers, hook, made.get()};
-        std::int32_t code = stm_service_open(detail::bytes(file), file.size(), &given, &made->at);
+        std::int32_t code = stm_service_open(file.data(), file.size(), &given, &made->at);
         if (code != STM_DONE) return answer<service>::none(code, detail::why(file, code));
         return answer<service>(service(std::move(made)));
     }
@@ -424,7 +415,7 @@ public:
 
     /// The number of a transaction. A call by its number finds it sooner than one by its name.
     std::optional<std::uint32_t> transaction(std::string_view name) const noexcept {
-        return counted<std::uint32_t>(stm_service_transaction, detail::bytes(name), name.size());
+        return counted<std::uint32_t>(stm_service_transaction, name.data(), name.size());
     }
 
     /// How many parameters a transaction has, at most 8.
@@ -511,13 +502,13 @@ public:
     std::optional<present> value(std::string_view name) const noexcept {
         present told = {0, 0};
         if (!held_) return std::nullopt;
-        auto code = stm_service_value(held_->at, detail::bytes(name), name.size(), &told.value, &told.version);
+        auto code = stm_service_value(held_->at, name.data(), name.size(), &told.value, &told.version);
         return code == STM_DONE ? std::optional<present>(told) : std::nullopt;
     }
 
     /// The number of a table, and how many cells it has, numbered from 0.
     std::optional<std::uint32_t> table(std::string_view name) const noexcept {
-        return counted<std::uint32_t>(stm_service_table, detail::bytes(name), name.size());
+        return counted<std::uint32_t>(stm_service_table, name.data(), name.size());
     }
     std::optional<std::size_t> table_length(std::uint32_t table) const noexcept {
         return counted<std::size_t>(stm_service_table_length, table);
@@ -546,6 +537,13 @@ public:
     /// The number of the chapter, from 0 on, and how many entries there were in all chapters.
     std::uint64_t chapter() const noexcept { return held_ ? stm_service_chapter(held_->at) : 0; }
     std::uint64_t entered() const noexcept { return held_ ? stm_service_entered(held_->at) : 0; }
+
+    /// How many entries, calls that wait and tasks with room there are, all of one moment.
+    stm_service_counts counts() const noexcept {
+        stm_service_counts told = {0, 0, 0, 0, 0, 0};
+        if (held_) stm_service_get_counts(held_->at, &told);
+        return told;
+    }
 
     /// Report and file of the present chapter. Once the service is closed they are a pair that `check` finds good.
     answer<std::string> report() const { return text(stm_service_report); }
@@ -605,14 +603,14 @@ private:
     static std::vector<std::string> names(std::size_t count, Call call, Given... given) {
         std::vector<std::string> told;
         for (std::uint32_t number = 0; number < count; number++)
-            told.push_back(detail::text([&](std::uint8_t *room, std::size_t length, std::size_t *wanted) {
+            told.push_back(detail::text([&](char *room, std::size_t length, std::size_t *wanted) {
                                return call(given..., number, room, length, wanted);
                            }).value());
         return told;
     }
 
     template <class Call> answer<std::string> text(Call call) const {
-        return detail::text([&](std::uint8_t *room, std::size_t length, std::size_t *wanted) {
+        return detail::text([&](char *room, std::size_t length, std::size_t *wanted) {
             return held_ ? call(held_->at, room, length, wanted) : std::int32_t{STM_EMPTY};
         });
     }
@@ -627,17 +625,17 @@ private:
         return static_cast<std::uint64_t>(std::chrono::ceil<std::chrono::nanoseconds>(time).count());
     }
 
-    static int ended(void *own, const std::uint8_t *file, std::size_t file_length, const std::uint8_t *report,
+    static int ended(void *own, const char *file, std::size_t file_length, const char *report,
                      std::size_t report_length) noexcept {
         const keeper &keep = static_cast<held *>(own)->keep;
 #if defined(__cpp_exceptions)
         try {
-            return keep(detail::text_of(file, file_length), detail::text_of(report, report_length)) ? 0 : 1;
+            return keep({file, file_length}, {report, report_length}) ? 0 : 1;
         } catch (...) {
             return 1;
         }
 #else
-        return keep(detail::text_of(file, file_length), detail::text_of(report, report_length)) ? 0 : 1;
+        return keep({file, file_length}, {report, report_length}) ? 0 : 1;
 #endif
     }
 

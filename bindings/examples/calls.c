@@ -29,13 +29,13 @@ int main(void) {
     stm_program program = {0};
     stm_store store = {0};
     stm_lender lender = {0};
-    int32_t code = stm_read((const uint8_t *)FILE_TEXT, strlen(FILE_TEXT), &program);
+    int32_t code = stm_read(FILE_TEXT, strlen(FILE_TEXT), &program);
     if (code == STM_DONE) code = stm_open_with_room(&program, 0, 0, 5, &store);
     if (code == STM_DONE) code = stm_open_lender(&store, &lender);
     if (code != STM_DONE) return fprintf(stderr, "%s\n", stm_word(code)), 1;
-    uint32_t pay = (uint32_t)stm_program_transaction(&program, (const uint8_t *)"pay", 3);
-    uint32_t put = (uint32_t)stm_program_transaction(&program, (const uint8_t *)"put", 3);
-    uint32_t get = (uint32_t)stm_program_transaction(&program, (const uint8_t *)"get", 3);
+    uint32_t pay = (uint32_t)stm_program_transaction(&program, "pay", 3);
+    uint32_t put = (uint32_t)stm_program_transaction(&program, "put", 3);
+    uint32_t get = (uint32_t)stm_program_transaction(&program, "get", 3);
     tell("pay", stm_call(&store, &lender, pay, NULL, 0, STM_WAITS));
     tell("pay", stm_call(&store, &lender, pay, NULL, 0, STM_WAITS));
     tell("get", stm_call(&store, &lender, get, NULL, 0, STM_WAITS));
@@ -46,7 +46,7 @@ int main(void) {
     }
     tell("get", stm_call(&store, &lender, get, NULL, 0, STM_WAITS));
     tell("put", stm_call(&store, &lender, put, NULL, 0, STM_WAITS));
-    uint8_t file[1000], report[1000];
+    char file[1000], report[1000];
     size_t file_length = 0, report_length = 0;
     stm_report_now(&store, report, sizeof report, &report_length);
     stm_file(&store, file, sizeof file, &file_length);

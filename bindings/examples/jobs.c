@@ -63,7 +63,7 @@ static void *work(void *own) {
 }
 
 static void judge(void) {
-    static uint8_t file[1 << 20], report[1 << 20];
+    static char file[1 << 20], report[1 << 20];
     size_t file_length, report_length;
     stm_service_close(service);
     holds(stm_service_file(service, file, sizeof file, &file_length) == STM_DONE, "the file fits");
@@ -75,7 +75,7 @@ int main(int count, char **words) {
     int workers = count > 1 ? atoi(words[1]) : 4, numbers[MOST_WORKERS];
     pthread_t pool[MOST_WORKERS];
     holds(1 <= workers && workers <= MOST_WORKERS, "1 to 32 workers");
-    holds(stm_service_open((const uint8_t *)PROGRAM, strlen(PROGRAM), NULL, &service) == STM_DONE, "it is opened");
+    holds(stm_service_open(PROGRAM, strlen(PROGRAM), NULL, &service) == STM_DONE, "it is opened");
     for (int64_t job = 1; job <= 10; job++) add(job);
     int64_t first = run(NEXT, NULL, 0);
     printf("the first is job %lld\n", (long long)first);

@@ -29,7 +29,7 @@ static int64_t order(int64_t pieces) { return stm_start(shop, 0, &pieces, 1, is_
 
 int main(void) {
     const int64_t delivered = DELIVERED;
-    if (stm_service_open((const uint8_t *)SHOP, strlen(SHOP), NULL, &shop) != STM_DONE) return 1;
+    if (stm_service_open(SHOP, strlen(SHOP), NULL, &shop) != STM_DONE) return 1;
     for (int i = 0; i < ORDERS; i++)
         if (order(i % 5 + 1) < 0) return 1;
     printf("%d orders wait\n", ORDERS);

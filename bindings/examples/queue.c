@@ -49,7 +49,7 @@ static int next(void) {
 }
 
 static void judge(void) {
-    static uint8_t file[1 << 20], report[1 << 20];
+    static char file[1 << 20], report[1 << 20];
     size_t file_length, report_length;
     stm_service_close(service);
     holds(stm_service_file(service, file, sizeof file, &file_length) == STM_DONE, "the file fits");
@@ -60,7 +60,7 @@ static void judge(void) {
 int main(int count, char **words) {
     char *text = count > 1 ? words[1] : "transaction";
     pthread_t sender;
-    holds(stm_service_open((const uint8_t *)PROGRAM, strlen(PROGRAM), NULL, &service) == STM_DONE, "it is opened");
+    holds(stm_service_open(PROGRAM, strlen(PROGRAM), NULL, &service) == STM_DONE, "it is opened");
     holds(pthread_create(&sender, NULL, sends, text) == 0, "a sender begins");
     for (int letter; (letter = next()) != 0;) putchar(letter);
     putchar('\n');

@@ -12,7 +12,7 @@ static void tell_why(void) {
     stm_explained why;
     char words[512];
     size_t length;
-    int32_t code = stm_explain((const uint8_t *)BANK, strlen(BANK), &why, (uint8_t *)words, sizeof words, &length);
+    int32_t code = stm_explain(BANK, strlen(BANK), &why, words, sizeof words, &length);
     if (code != STM_DONE) return;
     const char *line = BANK + why.place - (why.column - 1);
     printf("%.*s\n", (int)length, words);
@@ -21,7 +21,7 @@ static void tell_why(void) {
 
 int main(void) {
     stm_service *bank;
-    if (stm_service_open((const uint8_t *)BANK, strlen(BANK), NULL, &bank) != STM_DONE) return tell_why(), 0;
+    if (stm_service_open(BANK, strlen(BANK), NULL, &bank) != STM_DONE) return tell_why(), 0;
     printf("good\n");
     stm_service_free(bank);
     return 0;

@@ -82,7 +82,7 @@ int main(int count, char **words) {
     int threads = count > 1 ? atoi(words[1]) : 4;
     if (threads < 1 || threads > MOST_THREADS) return fail("threads", STM_NO_WORKER);
     stm_program program = {0};
-    int32_t code = stm_read((const uint8_t *)build, strlen(build), &program);
+    int32_t code = stm_read(build, strlen(build), &program);
     if (code != STM_DONE) return fail("read", code);
     code = stm_open(&program, (size_t)threads, 0, &store);
     if (code == STM_DONE) code = stm_open_lender(&store, &lender);
@@ -99,11 +99,11 @@ int main(int count, char **words) {
     }
     for (int i = 0; i < threads; i++) pthread_join(pool[i], NULL);
 
-    static uint8_t report[4096];
+    static char report[4096];
     size_t length = 0;
     code = stm_report(&store, report, sizeof report, &length);
     if (code != STM_DONE) return fail("report", code);
-    int32_t verdict = stm_check((const uint8_t *)build, strlen(build), report, length);
+    int32_t verdict = stm_check(build, strlen(build), report, length);
 
     for (uint64_t number = 1; number <= TASKS; number++) {
         for (int task = 0; task < TASKS; task++) {

@@ -15,7 +15,7 @@ static const char PROGRAM[] =
 static stm_service *service;
 
 static uint32_t transaction(const char *name) {
-    return (uint32_t)stm_service_transaction(service, (const uint8_t *)name, strlen(name));
+    return (uint32_t)stm_service_transaction(service, name, strlen(name));
 }
 
 static void tell(const char *what, stm_answer answer) {
@@ -28,7 +28,7 @@ static void *sleeper(void *answer) {
 }
 
 int main(void) {
-    int32_t code = stm_service_open((const uint8_t *)PROGRAM, strlen(PROGRAM), NULL, &service);
+    int32_t code = stm_service_open(PROGRAM, strlen(PROGRAM), NULL, &service);
     if (code != STM_DONE) return fprintf(stderr, "%s\n", stm_word(code)), 1;
     tell("pay", stm_atomically(service, transaction("pay"), NULL, 0));
     tell("pay", stm_atomically(service, transaction("pay"), NULL, 0));

@@ -16,9 +16,9 @@ static const char BANK[] =
 
 int main(void) {
     stm_service *bank;
-    int32_t code = stm_service_open((const uint8_t *)BANK, strlen(BANK), NULL, &bank);
+    int32_t code = stm_service_open(BANK, strlen(BANK), NULL, &bank);
     if (code != STM_DONE) return fprintf(stderr, "%s\n", stm_word(code)), 1;
-    uint32_t pay = (uint32_t)stm_service_transaction(bank, (const uint8_t *)"pay", 3);
+    uint32_t pay = (uint32_t)stm_service_transaction(bank, "pay", 3);
     const int64_t arguments[] = {3, 5, 60};
     for (int calls = 0; calls < 2; calls++) {
         stm_answer left = stm_atomically(bank, pay, arguments, 3);

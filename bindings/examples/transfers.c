@@ -22,7 +22,7 @@ enum { ACCOUNTS = 1000, EACH = 100, TELLERS = 4, TRANSFERS = 1000 };
 static stm_service *bank;
 
 static uint32_t transaction(const char *name) {
-    return (uint32_t)stm_service_transaction(bank, (const uint8_t *)name, strlen(name));
+    return (uint32_t)stm_service_transaction(bank, name, strlen(name));
 }
 
 static void holds(int so, const char *what) {
@@ -45,7 +45,7 @@ static void *teller(void *first) {
 static int64_t audit(void) { return stm_service_observe(bank, transaction("audit"), NULL, 0).value; }
 
 int main(void) {
-    holds(stm_service_open((const uint8_t *)BANK, strlen(BANK), NULL, &bank) == STM_DONE, "a bank is opened");
+    holds(stm_service_open(BANK, strlen(BANK), NULL, &bank) == STM_DONE, "a bank is opened");
     pthread_t tellers[TELLERS];
     int64_t first[TELLERS];
     for (int i = 0; i < TELLERS; i++) {
@@ -57,7 +57,7 @@ int main(void) {
     printf("%llu transfers, each paid or refused\n", (unsigned long long)stm_service_entered(bank));
     printf("all accounts have %lld\n", (long long)audit());
 
-    static uint8_t file[1 << 20], report[1 << 20];
+    static char file[1 << 20], report[1 << 20];
     size_t file_length, report_length;
     stm_service_close(bank);
     holds(stm_service_file(bank, file, sizeof file, &file_length) == STM_DONE, "the file fits");

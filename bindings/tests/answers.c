@@ -78,18 +78,16 @@ static const char FILE_TEXT[] = "(var x 5)(tx inc (set x (add x 1)) x)(tx wait (
 static const char REPORT[] = "base 0\nx 5 0\nentry 1 0 inc returned 6\nnow 1\nx 6 1\nparked 1 wait\nend\n";
 static stm_store store;
 static stm_program program;
-static uint8_t room[8388608];
-
-static const uint8_t *bytes(const char *text) { return (const uint8_t *)text; }
+static char room[8388608];
 
 /* A call that copies a text: by a number, into this room. */
-static int32_t copied(int call, const char *file, uint8_t *to, size_t size, size_t *wanted) {
+static int32_t copied(int call, const char *file, char *to, size_t size, size_t *wanted) {
     size_t length = strlen(file);
     switch (call) {
-    case 0: return stm_run_one(bytes(file), length, 0, to, size, wanted);
-    case 1: return stm_world(bytes(file), length, bytes("begin 0\n"), 8, to, size, wanted);
-    case 2: return stm_explore(bytes(file), length, 100, to, size, wanted);
-    case 3: return stm_explore_to(bytes(file), length, 100, 1, to, size, wanted);
+    case 0: return stm_run_one(file, length, 0, to, size, wanted);
+    case 1: return stm_world(file, length, "begin 0\n", 8, to, size, wanted);
+    case 2: return stm_explore(file, length, 100, to, size, wanted);
+    case 3: return stm_explore_to(file, length, 100, 1, to, size, wanted);
     case 4: return stm_report(&store, to, size, wanted);
     case 5: return stm_report_now(&store, to, size, wanted);
     default: return stm_file(&store, to, size, wanted);
@@ -116,19 +114,20 @@ static void long_ones(void) {
     static const char text[] = "(var x 0)(tx short (repeat 10 (set x 1)) x)(tx long (repeat 100 (repeat 100 (set x 1))) x)(tx none (skip) 0)"
                                "(tx light (repeat 50 (if (lt x 0) (throw 1) (skip))) x)(tx below (repeat 399 (set x 1)) x)(tx from (repeat 400 (set x 1)) x)";
     stm_program six = {0}, none = {0};
+    uint8_t flags[7];
     size_t wanted = 99;
-    wants(stm_read(bytes(text), strlen(text), &six) == STM_DONE);
+    wants(stm_read(text, strlen(text), &six) == STM_DONE);
     wants(stm_program_long(&six, NULL, 0, &wanted) == STM_SHORT && wanted == 6);
-    memset(room, '?', 7), wanted = 99;
-    wants(stm_program_long(&six, room, 5, &wanted) == STM_SHORT && wanted == 6 && room[0] == '?');
-    wants(stm_program_long(&six, room, 6, &wanted) == STM_DONE && wanted == 6 && memcmp(room, "\0\1\0\0\0\1?", 7) == 0);
-    wants(stm_program_long(&none, room, 3, &wanted) == STM_EMPTY && wanted == 0 && room[1] == 1);
+    memset(flags, '?', 7), wanted = 99;
+    wants(stm_program_long(&six, flags, 5, &wanted) == STM_SHORT && wanted == 6 && flags[0] == '?');
+    wants(stm_program_long(&six, flags, 6, &wanted) == STM_DONE && wanted == 6 && memcmp(flags, "\0\1\0\0\0\1?", 7) == 0);
+    wants(stm_program_long(&none, flags, 3, &wanted) == STM_EMPTY && wanted == 0 && flags[1] == 1);
     wants(stm_read(NULL, 0, &none) == STM_DONE && stm_program_long(&none, NULL, 0, &wanted) == STM_DONE && wanted == 0);
     stm_program_free(&six);
     stm_program_free(&none);
 }
 
-typedef int32_t name_of(const stm_program *program, uint32_t number, uint8_t *room, size_t length, size_t *wanted);
+typedef int32_t name_of(const stm_program *program, uint32_t number, char *room, size_t length, size_t *wanted);
 
 /* The name is told where the room is as long as it is, or longer; not where it is a byte shorter. */
 static bool is_named(name_of *call, const stm_program *program, uint32_t number, const char *name) {
@@ -146,11 +145,11 @@ static bool is_nameless(name_of *call, const stm_program *program, uint32_t numb
     return call(program, number, room, 9, &wanted) == code && wanted == 0 && room[0] == '?';
 }
 
-static int32_t parameter_of_pay(const stm_program *program, uint32_t number, uint8_t *at, size_t length, size_t *wanted) {
+static int32_t parameter_of_pay(const stm_program *program, uint32_t number, char *at, size_t length, size_t *wanted) {
     return stm_program_parameter_name(program, 1, number, at, length, wanted);
 }
 
-static int32_t first_parameter(const stm_program *program, uint32_t transaction, uint8_t *at, size_t length, size_t *wanted) {
+static int32_t first_parameter(const stm_program *program, uint32_t transaction, char *at, size_t length, size_t *wanted) {
     return stm_program_parameter_name(program, transaction, 0, at, length, wanted);
 }
 
@@ -162,7 +161,7 @@ static void names(void) {
                                      stm_program_transaction_name, parameter_of_pay, first_parameter};
     static const char *const wanted[][2] = {{"xy", "here"}, {"acct", "rate"}, {"low", "all"}, {"get", "pay"}, {"from", "to"}, {NULL, "from"}};
     stm_program program = {0}, none = {0};
-    wants(stm_read(bytes(text), strlen(text), &program) == STM_DONE);
+    wants(stm_read(text, strlen(text), &program) == STM_DONE);
     for (int call = 0; call < 6; call++) {
         for (uint32_t number = 0; number < 2; number++) {
             const char *name = wanted[call][number];
@@ -174,9 +173,9 @@ static void names(void) {
     }
     wants(stm_program_parameter_name(&program, 1, UINT32_MAX, room, 9, &(size_t){0}) == STM_UNKNOWN);
     wants(stm_program_conditions(&program) == 2 && stm_program_conditions(&none) == 0);
-    wants(stm_program_condition(&program, bytes("all"), 3) == 1 && stm_program_condition(&program, bytes("al"), 2) == STM_UNKNOWN);
-    wants(stm_program_condition(&program, bytes("xy"), 2) == STM_UNKNOWN && stm_program_condition(&program, bytes("\377"), 1) == STM_UNKNOWN);
-    wants(stm_program_condition(&none, bytes("all"), 3) == STM_EMPTY);
+    wants(stm_program_condition(&program, "all", 3) == 1 && stm_program_condition(&program, "al", 2) == STM_UNKNOWN);
+    wants(stm_program_condition(&program, "xy", 2) == STM_UNKNOWN && stm_program_condition(&program, "\377", 1) == STM_UNKNOWN);
+    wants(stm_program_condition(&none, "all", 3) == STM_EMPTY);
     stm_program_free(&program);
 }
 
@@ -189,15 +188,15 @@ static void no_texts(void) {
         wants(copied(call, "(var x", room, sizeof room, &wanted) == STM_FILE_SHAPE && wanted == 0);
     }
     wanted = 99;
-    wants(stm_world(bytes(FILE_TEXT), strlen(FILE_TEXT), bytes("begin"), 5, room, sizeof room, &wanted) == STM_SCHEDULE_SHAPE && wanted == 0);
+    wants(stm_world(FILE_TEXT, strlen(FILE_TEXT), "begin", 5, room, sizeof room, &wanted) == STM_SCHEDULE_SHAPE && wanted == 0);
     wanted = 99;
-    wants(stm_explore(bytes(FILE_TEXT), strlen(FILE_TEXT), 0, room, sizeof room, &wanted) == STM_STATES && wanted == 0);
+    wants(stm_explore(FILE_TEXT, strlen(FILE_TEXT), 0, room, sizeof room, &wanted) == STM_STATES && wanted == 0);
     for (size_t end = 0; end < 4; end += 3) {
         wanted = 99;
-        wants(stm_explore_to(bytes(FILE_TEXT), strlen(FILE_TEXT), 100, end, room, sizeof room, &wanted) == STM_NO_END && wanted == 0);
+        wants(stm_explore_to(FILE_TEXT, strlen(FILE_TEXT), 100, end, room, sizeof room, &wanted) == STM_NO_END && wanted == 0);
     }
     wanted = 99;
-    wants(stm_explore_to(bytes(FILE_TEXT), strlen(FILE_TEXT), 16777217, 1, room, sizeof room, &wanted) == STM_STATES && wanted == 0);
+    wants(stm_explore_to(FILE_TEXT, strlen(FILE_TEXT), 16777217, 1, room, sizeof room, &wanted) == STM_STATES && wanted == 0);
     wanted = 99;
     wants(stm_report_now(&store, room, sizeof room, &wanted) == STM_WORK_LEFT && wanted == 0);
     stm_store none = {0};
@@ -219,17 +218,17 @@ static void explained(void) {
     static const char file[] = "(var x 0)\n(tx t (set y 1) x)", words[] = "line 2, column 12: F4 Name: ";
     stm_explained out = {9, 9, 9, 9};
     size_t wanted = 99, again = 99;
-    wants(stm_explain(bytes(file), strlen(file), &out, NULL, 0, &wanted) == STM_SHORT && wanted > sizeof words);
+    wants(stm_explain(file, strlen(file), &out, NULL, 0, &wanted) == STM_SHORT && wanted > sizeof words);
     wants(is_there(&out, STM_FILE_NAME, 2, 12, 21));
     memset(room, '?', wanted + 1), memset(&out, 0, sizeof out);
-    wants(stm_explain(bytes(file), strlen(file), &out, room, wanted - 1, &again) == STM_SHORT && again == wanted);
+    wants(stm_explain(file, strlen(file), &out, room, wanted - 1, &again) == STM_SHORT && again == wanted);
     wants(is_there(&out, STM_FILE_NAME, 2, 12, 21) && room[0] == '?');
-    wants(stm_explain(bytes(file), strlen(file), &out, room, wanted, &again) == STM_DONE && again == wanted);
+    wants(stm_explain(file, strlen(file), &out, room, wanted, &again) == STM_DONE && again == wanted);
     wants(memcmp(room, words, sizeof words - 1) == 0 && !memchr(room, '\n', wanted) && room[wanted] == '?');
     for (int empty = 0; empty < 2; empty++) {
         memset(&out, 9, sizeof out), wanted = 99;
         size_t length = empty ? 0 : strlen(FILE_TEXT);
-        wants(stm_explain(empty ? NULL : bytes(FILE_TEXT), length, &out, NULL, 0, &wanted) == STM_DONE && wanted == 0);
+        wants(stm_explain(empty ? NULL : FILE_TEXT, length, &out, NULL, 0, &wanted) == STM_DONE && wanted == 0);
         wants(is_there(&out, STM_DONE, 0, 0, 0));
     }
 }
@@ -258,7 +257,7 @@ static int32_t judged(const char *file, const char *old, const char *new) {
     const char *at = strstr(REPORT, old);
     wants(at != NULL);
     snprintf(text, sizeof text, "%.*s%s%s", (int)(at - REPORT), REPORT, new, at + strlen(old));
-    return stm_check(bytes(file), strlen(file), bytes(text), strlen(text));
+    return stm_check(file, strlen(file), text, strlen(text));
 }
 
 static void verdicts(void) {
@@ -299,7 +298,7 @@ static void jobs(void) {
 int main(void) {
     each_word();
     verdicts();
-    wants(stm_read(bytes(FILE_TEXT), strlen(FILE_TEXT), &program) == STM_DONE);
+    wants(stm_read(FILE_TEXT, strlen(FILE_TEXT), &program) == STM_DONE);
     wants(stm_open(&program, 1, 0, &store) == STM_DONE);
     nothing();
     jobs();

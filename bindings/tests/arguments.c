@@ -36,7 +36,7 @@ static int is(stm_answer told, int64_t ticket, int32_t code, int64_t value, uint
 
 static int32_t read_as(const char *text) {
     stm_program read = {0};
-    int32_t code = stm_read((const uint8_t *)text, strlen(text), &read);
+    int32_t code = stm_read(text, strlen(text), &read);
     stm_program_free(&read);
     return code;
 }
@@ -115,15 +115,15 @@ static int has(const char *text, const char *part) { return strstr(text, part) !
 static void texts(void) {
     static char file[4096], report[4096];
     size_t length = 0, report_length = 0;
-    wants(stm_file(&store, (uint8_t *)file, sizeof file - 1, &length) == STM_DONE);
-    wants(stm_report(&store, (uint8_t *)report, sizeof report, &report_length) == STM_DONE);
-    wants(stm_check((uint8_t *)file, length, (uint8_t *)report, report_length) == STM_DONE);
+    wants(stm_file(&store, file, sizeof file - 1, &length) == STM_DONE);
+    wants(stm_report(&store, report, sizeof report, &report_length) == STM_DONE);
+    wants(stm_check(file, length, report, report_length) == STM_DONE);
     file[length] = 0;
     wants(has(file, "(stm 3)\n") && has(file, "(tx sum () (skip) (add alice bob))\n") && has(file, "(run pay 2 10)\n"));
     wants(has(file, "(run digits 1 1 2 3 4 5 6 7 8)\n") && has(file, "(run same 1 -9223372036854775808)\n"));
     wants(has(file, "(run take 1 45)\n") && has(file, "(run take 1 1000)\n"));
     wants(stm_begin_chapter(&store) == STM_DONE && stm_store_tasks(&store) == 1);
-    wants(stm_file(&store, (uint8_t *)file, sizeof file - 1, &length) == STM_DONE);
+    wants(stm_file(&store, file, sizeof file - 1, &length) == STM_DONE);
     file[length] = 0;
     wants(has(file, "(var alice 74)\n") && has(file, "(run take 1 1000)\n") && !has(file, "(run pay"));
     wants(is(calls(PAY, -1000), 11, STM_DONE, 1074, 1) && is(calls(PAY, 1074), 12, STM_DONE, 0, 2));
@@ -184,7 +184,7 @@ static void of_a_service(void) {
 
 int main(void) {
     files();
-    wants(stm_read((const uint8_t *)TEXT, strlen(TEXT), &program) == STM_DONE);
+    wants(stm_read(TEXT, strlen(TEXT), &program) == STM_DONE);
     wants(stm_open_with_room(&program, 1, 0, 14, &store) == STM_DONE);
     wants(stm_open_worker(&store, &worker) == STM_DONE && stm_open_lender(&store, &lender) == STM_DONE);
     parameters();

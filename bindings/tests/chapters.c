@@ -11,10 +11,8 @@ static stm_store store;
 static stm_lender lender;
 static stm_worker worker;
 
-static const uint8_t *bytes(const char *text) { return (const uint8_t *)text; }
-
 static void opens(const char *file, size_t spare) {
-    wants(stm_read(bytes(file), strlen(file), &program) == STM_DONE);
+    wants(stm_read(file, strlen(file), &program) == STM_DONE);
     wants(stm_open_with_room(&program, 1, 0, spare, &store) == STM_DONE);
     wants(stm_open_worker(&store, &worker) == STM_DONE && stm_open_lender(&store, &lender) == STM_DONE);
 }
@@ -28,7 +26,7 @@ static void ends(void) {
 
 /* File and report of the chapter are these, and a pair that a check finds good. */
 static void is(const char *file, const char *report) {
-    uint8_t f[1000], r[1000];
+    char f[1000], r[1000];
     size_t file_length = 0, report_length = 0;
     wants(stm_file(&store, f, sizeof f, &file_length) == STM_DONE && file_length == strlen(file));
     wants(stm_report_now(&store, r, sizeof r, &report_length) == STM_DONE && report_length == strlen(report));
@@ -131,7 +129,7 @@ static void other_programs(void) {
     stm_worker workers[2] = {{0}, {0}};
     for (int i = 0; i < 2; i++) {
         const char *file = of_variables(i == 0 ? 1 : 256);
-        wants(stm_read(bytes(file), strlen(file), &programs[i]) == STM_DONE);
+        wants(stm_read(file, strlen(file), &programs[i]) == STM_DONE);
         wants(stm_open(&programs[i], 1, 0, &stores[i]) == STM_DONE && stm_open_worker(&stores[i], &workers[i]) == STM_DONE);
     }
     for (int i = 0; i < 2; i++) {
@@ -161,7 +159,7 @@ static void the_same_program(void) {
         stm_program other = {0};
         stm_store second = {0};
         stm_worker hired = {0};
-        wants(stm_read(bytes(files[i]), strlen(files[i]), &other) == STM_DONE && stm_open(&other, 1, 0, &second) == STM_DONE);
+        wants(stm_read(files[i], strlen(files[i]), &other) == STM_DONE && stm_open(&other, 1, 0, &second) == STM_DONE);
         jobs[i] = stm_take(&store);
         wants(stm_open_worker(&second, &hired) == STM_DONE && stm_try_job(&hired, jobs[i]) == STM_DONE);
         /* It has read 9, which is not what the store has; of the stricter one nothing is brought. */

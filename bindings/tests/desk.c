@@ -20,13 +20,11 @@ static stm_worker worker;
 static stm_desk desk;
 static stm_ended ended;
 static stm_job job;
-static uint8_t room[2000];
+static char room[2000];
 static size_t wanted;
 
-static const uint8_t *bytes(const char *text) { return (const uint8_t *)text; }
-
 static void reads(const char *file, size_t spare) {
-    wants(stm_read(bytes(file), strlen(file), &program) == STM_DONE);
+    wants(stm_read(file, strlen(file), &program) == STM_DONE);
     wants(stm_open_with_room(&program, 1, 0, spare, &store) == STM_DONE && stm_open_worker(&store, &worker) == STM_DONE);
 }
 
@@ -72,7 +70,7 @@ static int is_all_told(void) {
 static int64_t value_of(const char *name) {
     int64_t value = 0;
     uint64_t version = 0;
-    wants(stm_desk_value(&desk, bytes(name), strlen(name), &value, &version) == STM_DONE);
+    wants(stm_desk_value(&desk, name, strlen(name), &value, &version) == STM_DONE);
     return value;
 }
 
@@ -90,7 +88,7 @@ static void of_empty_handles(void) {
     wants(stm_desk_not_kept(&desk, &ended) == STM_EMPTY && stm_ended_chapter(&ended) == 0);
     wants(stm_ended_file(&ended, room, sizeof room, &wanted) == STM_EMPTY && wanted == 0);
     wants(stm_ended_report(&ended, room, sizeof room, &wanted) == STM_EMPTY && wanted == 0);
-    wants(stm_desk_value(&desk, bytes("made"), 4, &value, &version) == STM_EMPTY);
+    wants(stm_desk_value(&desk, "made", 4, &value, &version) == STM_EMPTY);
     wants(stm_desk_cell(&desk, 0, 0, &value, &version) == STM_EMPTY && stm_desk_cells(&desk, 0, 0, &value, 1) == STM_EMPTY);
     wants(stm_desk_counts(&desk, &counts) == STM_EMPTY && counts.ready == 9 && value == 3 && version == 4);
     wants(stm_desk_spare(&desk) == 0 && stm_desk_chapter(&desk) == 0 && stm_desk_entered(&desk) == 0);
@@ -189,7 +187,7 @@ static void stranger(void) {
     stm_store theirs = {0};
     stm_worker hired = {0};
     opens(20);
-    wants(stm_read(bytes(other), strlen(other), &its) == STM_DONE && stm_open(&its, 1, 0, &theirs) == STM_DONE);
+    wants(stm_read(other, strlen(other), &its) == STM_DONE && stm_open(&its, 1, 0, &theirs) == STM_DONE);
     wants(stm_open_worker(&theirs, &hired) == STM_DONE && asks(LONG_GET, STM_WAITS, 1).code == STM_RUNNING);
     wants(stm_try_job(&hired, job) == STM_DONE && stm_desk_bring(&desk, &hired) == STM_OTHER_PROGRAM && is_all_told());
     stm_worker none = {0};
@@ -202,7 +200,7 @@ static void stranger(void) {
 
 /* The chapter in the handle has this number, and its two texts are a pair. */
 static int is_ended(uint64_t chapter) {
-    static uint8_t file[2000];
+    static char file[2000];
     size_t length = 0;
     wants(stm_ended_file(&ended, file, 3, &length) == STM_SHORT && length > 3);
     wants(stm_ended_file(&ended, file, sizeof file, &length) == STM_DONE);
@@ -245,8 +243,8 @@ static void looks(void) {
     uint64_t version = 9;
     opens(20);
     wants(asks(PUT, STM_WAITS, 1).code == STM_DONE && asks(PUT, STM_WAITS, 1).code == STM_DONE);
-    wants(stm_desk_value(&desk, bytes("made"), 4, &value, &version) == STM_DONE && value == 2 && version == 3);
-    wants(stm_desk_value(&desk, bytes("none"), 4, &value, &version) == STM_UNKNOWN && value == 2 && version == 3);
+    wants(stm_desk_value(&desk, "made", 4, &value, &version) == STM_DONE && value == 2 && version == 3);
+    wants(stm_desk_value(&desk, "none", 4, &value, &version) == STM_UNKNOWN && value == 2 && version == 3);
     wants(stm_desk_cell(&desk, 0, 1, &value, &version) == STM_DONE && value == 5 && version == 0);
     wants(stm_desk_cell(&desk, 0, 2, &value, &version) == STM_UNKNOWN && stm_desk_cell(&desk, 1, 0, &value, &version) == STM_UNKNOWN);
     wants(stm_desk_cells(&desk, 0, 0, both, 3) == 2 && both[0] == 5 && both[1] == 5 && both[2] == 0);
@@ -255,7 +253,7 @@ static void looks(void) {
     wants(stm_desk_file(&desk, room, 3, &wanted) == STM_SHORT && value_of("taken") == 2);
     stm_desk_told told = stm_desk_next_told(&desk);
     wants(told.whose == 70 && is_at(told.answer, 3, STM_DONE, 2, 0, 4, 3) && is_all_told());
-    static uint8_t file[2000];
+    static char file[2000];
     size_t length;
     wants(asks(LONG_GET, STM_WAITS, 71).code == STM_RUNNING);
     wants(stm_desk_report(&desk, room, 3, &wanted) == STM_SHORT && stm_desk_report(&desk, room, sizeof room, &wanted) == STM_DONE);

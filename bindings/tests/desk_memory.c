@@ -20,7 +20,7 @@ static stm_worker worker;
 static stm_desk desk;
 static stm_ended ended;
 static stm_job job;
-static uint8_t file[2000], report[2000];
+static char file[2000], report[2000];
 static size_t file_length, report_length;
 
 /* The store stays where its desk is refused memory. */
@@ -107,7 +107,7 @@ static void with_refusal(long turn) {
 }
 
 int main(void) {
-    wants(stm_read((const uint8_t *)QUEUE, sizeof QUEUE - 1, &program) == STM_DONE);
+    wants(stm_read(QUEUE, sizeof QUEUE - 1, &program) == STM_DONE);
     long stays = blocks;
     with_refusal(0);
     long all = requests;

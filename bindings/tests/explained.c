@@ -10,7 +10,7 @@
 #include <stdlib.h>
 
 enum { MOST = 1 << 27 };
-static uint8_t *file;
+static char *file;
 
 static size_t length_of(const char *path) {
     FILE *opened = fopen(path, "rb");
@@ -22,7 +22,7 @@ static size_t length_of(const char *path) {
 
 static void tell(size_t length) {
     stm_explained why;
-    uint8_t words[512];
+    char words[512];
     size_t said;
     stm_program program = {0};
     wants(stm_explain(file, length, &why, words, sizeof words, &said) == STM_DONE);
@@ -31,7 +31,7 @@ static void tell(size_t length) {
     if (why.code == STM_DONE) {
         printf("good\n");
     } else {
-        printf("%zu %zu %.*s\n", why.line, why.column, (int)said, (char *)words);
+        printf("%zu %zu %.*s\n", why.line, why.column, (int)said, words);
     }
 }
 

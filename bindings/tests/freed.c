@@ -131,7 +131,7 @@ int main(int words_count, char **words) {
     long rounds = words_count > 1 ? atol(words[1]) : 200;
     int order[HANDLES];
     for (int i = 0; i < HANDLES; i++) order[i] = i;
-    wants(stm_read((const uint8_t *)text, sizeof text - 1, &program) == STM_DONE);
+    wants(stm_read(text, sizeof text - 1, &program) == STM_DONE);
     long kept = counted();
     int orders = each_order(order, 0, rounds, kept);
     for (long round = 0; round < rounds; round++) in_threads(kept);

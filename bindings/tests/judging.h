@@ -17,7 +17,7 @@ struct judged {
     long chapters;
 };
 
-typedef int hook(void *own, const uint8_t *file, size_t file_length, const uint8_t *report, size_t report_length);
+typedef int hook(void *own, const char *file, size_t file_length, const char *report, size_t report_length);
 
 static long lines_with(const char *text, size_t length, const char *word) {
     long lines = 0;
@@ -27,18 +27,18 @@ static long lines_with(const char *text, size_t length, const char *word) {
 }
 
 /* As the hook of a service, whose own is a `struct judged`. */
-static int judges(void *own, const uint8_t *file, size_t file_length, const uint8_t *report, size_t report_length) {
+static int judges(void *own, const char *file, size_t file_length, const char *report, size_t report_length) {
     struct judged *judged = own;
     wants(stm_check(file, file_length, report, report_length) == STM_DONE);
     for (int i = 0; i < MOST_WORDS && judged->words[i]; i++)
-        judged->lines[i] += lines_with((const char *)report, report_length, judged->words[i]);
+        judged->lines[i] += lines_with(report, report_length, judged->words[i]);
     judged->chapters++;
     return 0;
 }
 
 /* The last chapter, of a service that is closed or that no thread calls meanwhile. */
 static void judges_the_last(stm_service *service, struct judged *judged) {
-    static uint8_t file[1048576], report[MOST_REPORT];
+    static char file[1048576], report[MOST_REPORT];
     size_t file_length, report_length;
     wants(stm_service_file(service, file, sizeof file, &file_length) == STM_DONE);
     wants(stm_service_report(service, report, sizeof report, &report_length) == STM_DONE);
@@ -47,14 +47,14 @@ static void judges_the_last(stm_service *service, struct judged *judged) {
 
 static stm_service *opens(const char *text, const stm_service_options *options) {
     stm_service *service = NULL;
-    wants(stm_service_open((const uint8_t *)text, strlen(text), options, &service) == STM_DONE && service);
+    wants(stm_service_open(text, strlen(text), options, &service) == STM_DONE && service);
     return service;
 }
 
 static int64_t value_of(stm_service *service, const char *name) {
     int64_t value = 0;
     uint64_t version = 0;
-    wants(stm_service_value(service, (const uint8_t *)name, strlen(name), &value, &version) == STM_DONE);
+    wants(stm_service_value(service, name, strlen(name), &value, &version) == STM_DONE);
     return value;
 }
 

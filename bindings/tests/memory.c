@@ -10,7 +10,8 @@
 #include <stdio.h>
 #include <stdlib.h>
 
-static uint8_t file[1 << 20], room[8388608];
+static char file[1 << 20], room[8388608];
+static uint8_t is_long[4096];
 static size_t length, wanted;
 
 /* All tasks by one worker; what is refused is given up. Whether a refusal was told. */
@@ -22,7 +23,7 @@ static int host(long *kept) {
     stm_lender lender = {0};
     told_of |= stm_read(file, length, &program) == STM_MEMORY;
     *kept = blocks;
-    told_of |= stm_program_long(&program, room, sizeof room, &wanted) == STM_MEMORY;
+    told_of |= stm_program_long(&program, is_long, sizeof is_long, &wanted) == STM_MEMORY;
     told_of |= stm_open(&program, 2, 0, &store) == STM_MEMORY;
     told_of |= stm_open_worker(&store, &worker) == STM_MEMORY;
     told_of |= stm_open_lender(&store, &lender) == STM_MEMORY;
@@ -61,7 +62,7 @@ static int takes_none(void) {
     stm_program program = {0};
     stm_store store = {0};
     stm_lender lender = {0};
-    if (stm_read((const uint8_t *)text, sizeof text - 1, &program) != STM_DONE) return 0;
+    if (stm_read(text, sizeof text - 1, &program) != STM_DONE) return 0;
     if (stm_open_with_room(&program, 0, 0, 6, &store) != STM_DONE || stm_open_lender(&store, &lender) != STM_DONE) return 0;
     long before = requests;
     for (int chapter = 0; chapter < 50; chapter++) {

@@ -13,10 +13,8 @@ static const char WAITING[] = "(var full 0)\n"
 static stm_store store;
 static stm_worker worker;
 static stm_lender lender;
-static uint8_t none;
+static char none;
 static size_t unused;
-
-static const uint8_t *bytes(const char *text) { return (const uint8_t *)text; }
 
 /* The next job ends so. */
 static void ends(int64_t ticket, uint32_t transaction, int32_t code) {
@@ -37,13 +35,13 @@ static void stand(size_t ready, size_t running, size_t parked, size_t done) {
 static void is(int64_t wanted, uint64_t since) {
     int64_t value = 9;
     uint64_t version = 9;
-    wants(stm_value(&store, bytes("empty"), 5, &value, &version) == STM_UNKNOWN && value == 9 && version == 9);
-    wants(stm_value(&store, bytes("full"), 4, &value, &version) == STM_DONE && value == wanted && version == since);
+    wants(stm_value(&store, "empty", 5, &value, &version) == STM_UNKNOWN && value == 9 && version == 9);
+    wants(stm_value(&store, "full", 4, &value, &version) == STM_DONE && value == wanted && version == since);
 }
 
 /* File and report of this moment are a pair that a check finds good, and the file has so many runs. */
 static void agree(int runs) {
-    uint8_t file[4096], report[4096];
+    char file[4096], report[4096];
     size_t file_length = 0, report_length = 0;
     wants(stm_report_now(&store, report, 10, &report_length) == STM_SHORT);
     wants(stm_report_now(&store, report, report_length, &report_length) == STM_DONE);
@@ -62,7 +60,7 @@ static void empty_handles(void) {
     wants(stm_open_with_room(&program, 1, 0, 1, &store) == STM_EMPTY);
     wants(stm_submit(&store, 0, NULL, 0) == STM_EMPTY && stm_take(&store).ticket == STM_EMPTY);
     wants(stm_get_counts(&store, &counts) == STM_EMPTY);
-    wants(stm_value(&store, bytes("full"), 4, &value, &version) == STM_EMPTY);
+    wants(stm_value(&store, "full", 4, &value, &version) == STM_EMPTY);
     wants(stm_file(&store, &none, 0, &unused) == STM_EMPTY && stm_report_now(&store, &none, 0, &unused) == STM_EMPTY);
     wants(stm_try_job(&worker, (stm_job){.ticket = 0}) == STM_EMPTY);
     wants(stm_observe(&worker, 0, NULL, 0).code == STM_EMPTY && stm_bring(&store, &worker).code == STM_EMPTY);
@@ -70,7 +68,7 @@ static void empty_handles(void) {
     wants(stm_claim(&store, 0).ticket == STM_EMPTY && stm_turn(&store, &lender, stm_take(&store)).code == STM_EMPTY);
     wants(stm_give_up(&store, 0) == STM_EMPTY && stm_checkpoint(&store) == STM_EMPTY);
     wants(stm_report(&store, &none, 0, &unused) == STM_EMPTY);
-    wants(stm_program_variable(&program, bytes("x"), 1) == STM_EMPTY && stm_program_transaction(&program, bytes("x"), 1) == STM_EMPTY);
+    wants(stm_program_variable(&program, "x", 1) == STM_EMPTY && stm_program_transaction(&program, "x", 1) == STM_EMPTY);
     wants(stm_program_tasks(&program) + stm_program_variables(&program) + stm_program_transactions(&program) == 0);
     wants(stm_store_spare(&store) + stm_store_tasks(&store) == 0);
     stm_worker_free(&worker);
@@ -81,7 +79,7 @@ static void empty_handles(void) {
 
 /* What is full is not filled again, and what is let go is empty. */
 static void full_handles(stm_program *program) {
-    wants(stm_read(bytes(WAITING), strlen(WAITING), program) == STM_FULL);
+    wants(stm_read(WAITING, strlen(WAITING), program) == STM_FULL);
     wants(stm_open(program, 1, 0, &store) == STM_FULL && stm_open_worker(&store, &worker) == STM_FULL);
     stm_worker none_hired = {0};
     wants(stm_open_worker(&store, &none_hired) == STM_NO_WORKER && stm_bring(&store, &none_hired).code == STM_EMPTY);
@@ -158,7 +156,7 @@ static void up_to_the_room(void) {
 int main(void) {
     stm_program program = {0};
     empty_handles();
-    wants(stm_read(bytes(WAITING), strlen(WAITING), &program) == STM_DONE);
+    wants(stm_read(WAITING, strlen(WAITING), &program) == STM_DONE);
     wants(stm_open_with_room(&program, 1, 0, 65535, &store) == STM_NO_ROOM);
     wants(stm_open_with_room(&program, 1, 0, 3, &store) == STM_DONE);
     wants(stm_open_with_room(&program, 1, 0, 3, &store) == STM_FULL);

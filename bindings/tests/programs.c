@@ -18,12 +18,12 @@ static int asks(void) {
     int64_t value = 0;
     uint64_t version = 0;
     if (stm_program_tasks(&program) != 3 || stm_program_variables(&program) != 1) return 0;
-    if (stm_program_transactions(&program) != 2 || stm_program_variable(&program, (const uint8_t *)"x", 1) != 0) return 0;
-    if (stm_program_transaction(&program, (const uint8_t *)"get", 3) != 1) return 0;
+    if (stm_program_transactions(&program) != 2 || stm_program_variable(&program, "x", 1) != 0) return 0;
+    if (stm_program_transaction(&program, "get", 3) != 1) return 0;
     if (stm_open(&program, 0, 0, &store) != STM_DONE || stm_open_lender(&store, &lender) != STM_DONE) return 0;
     for (stm_job job = stm_take(&store); job.ticket >= 0; job = stm_take(&store))
         if (stm_turn(&store, &lender, job).code != STM_DONE) return 0;
-    if (stm_value(&store, (const uint8_t *)"x", 1, &value, &version) != STM_DONE) return 0;
+    if (stm_value(&store, "x", 1, &value, &version) != STM_DONE) return 0;
     stm_lender_free(&lender);
     stm_store_free(&store);
     return value == 8 && version == 3;
@@ -41,7 +41,7 @@ int main(int count, char **words) {
     int good[MOST];
     int threads = count > 1 ? atoi(words[1]) : 4, all = 1;
     if (threads < 1 || threads > MOST) return 9;
-    if (stm_read((const uint8_t *)FILE_TEXT, strlen(FILE_TEXT), &program) != STM_DONE) return 2;
+    if (stm_read(FILE_TEXT, strlen(FILE_TEXT), &program) != STM_DONE) return 2;
     for (int i = 0; i < threads; i++)
         if (pthread_create(&pool[i], NULL, work, &good[i])) return 4;
     for (int i = 0; i < threads; i++) {

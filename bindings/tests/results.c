@@ -11,10 +11,8 @@ static stm_store store;
 static stm_lender lender;
 static stm_worker worker;
 
-static const uint8_t *bytes(const char *text) { return (const uint8_t *)text; }
-
 static void begins(const char *file, size_t workers, uint32_t checkpoint, size_t spare) {
-    wants(stm_read(bytes(file), strlen(file), &program) == STM_DONE);
+    wants(stm_read(file, strlen(file), &program) == STM_DONE);
     wants(stm_open_with_room(&program, workers, checkpoint, spare, &store) == STM_DONE);
     wants(stm_open_lender(&store, &lender) == STM_DONE && stm_open_lender(&store, &lender) == STM_FULL);
     if (workers) wants(stm_open_worker(&store, &worker) == STM_DONE);
@@ -101,7 +99,7 @@ static void given_up(void) {
 static void parked(void) {
     static const char file[] = "(tx t (retry) 0)(run t 1)";
     static const char report[] = "base 0\nnow 0\nmemory 0 t\nend\n";
-    uint8_t room[sizeof report];
+    char room[sizeof report];
     size_t length = 0;
     begins(file, 0, 0, 1);
     wants(tells(turns(), 0, STM_RETRIES, 0, 0) && tells(stm_standing(&store, 0), 0, STM_RETRIES, 0, 0));
@@ -109,7 +107,7 @@ static void parked(void) {
     wants(stm_give_up(&store, 0) == STM_GONE && tells(stm_standing(&store, 0), 0, STM_GIVEN_UP, 0, 0));
     wants(none(calls(0, STM_TRIES), STM_RETRIES) && none(calls(0, UINT32_MAX), STM_RETRIES) && stm_store_spare(&store) == 1);
     wants(stm_report_now(&store, room, sizeof room, &length) == STM_DONE && length == strlen(report));
-    wants(memcmp(room, report, length) == 0 && stm_check(bytes(file), strlen(file), room, length) == STM_DONE);
+    wants(memcmp(room, report, length) == 0 && stm_check(file, strlen(file), room, length) == STM_DONE);
     wants(tells(calls(0, STM_WAITS), 1, STM_RETRIES, 0, 0) && stm_store_spare(&store) == 0);
     wants(none(calls(0, STM_TRIES), STM_RETRIES));
     ends();
@@ -173,13 +171,13 @@ static void lenders(void) {
     stm_program other = {0};
     stm_store second = {0};
     static const char file[] = "(var y 1)(var z 2)(tx sum (skip) (add y z))";
-    wants(stm_read(bytes(file), strlen(file), &other) == STM_DONE && stm_open_with_room(&other, 0, 0, 1, &second) == STM_DONE);
+    wants(stm_read(file, strlen(file), &other) == STM_DONE && stm_open_with_room(&other, 0, 0, 1, &second) == STM_DONE);
     wants(tells(stm_call(&second, &lender, 0, NULL, 0, STM_WAITS), 0, STM_DONE, 3, 1));
     wants(tells(calls(0, STM_WAITS), 0, STM_DONE, 6, 1));
     stm_store_free(&second);
     stm_program_free(&other);
     ends();
-    wants(stm_read(bytes("(var x 5)"), 9, &program) == STM_DONE && stm_open(&program, 0, 0, &store) == STM_DONE);
+    wants(stm_read("(var x 5)", 9, &program) == STM_DONE && stm_open(&program, 0, 0, &store) == STM_DONE);
     wants(stm_open_lender(&store, &lender) == STM_NO_WORKER && !lender.at);
     ends();
 }

@@ -2,6 +2,7 @@
 #include "judging.h"
 
 #include <pthread.h>
+#include <stdbool.h>
 #include <stdio.h>
 #include <time.h>
 
@@ -11,10 +12,8 @@ static const char ENDS[] =
     "(tx zero (skip) (div n 0))(tx break (set low 1) 0)(tx wait (if (eq out 0) (retry) (skip)) out)(tx go (set out n) out)"
     "(run inc 2)(run wait 1)(run bad 1)";
 
-static const uint8_t *bytes(const char *text) { return (const uint8_t *)text; }
-
 static uint32_t number_of(stm_service *service, const char *name) {
-    int64_t number = stm_service_transaction(service, (const uint8_t *)name, strlen(name));
+    int64_t number = stm_service_transaction(service, name, strlen(name));
     wants(number >= 0);
     return (uint32_t)number;
 }
@@ -55,7 +54,7 @@ static void each_end(void) {
     wants(is(stm_try_atomically(s, wait, NULL, 0), STM_DONE, 10, 12));
     int64_t value = 0;
     uint64_t version = 0;
-    wants(stm_service_value(s, bytes("n"), 1, &value, &version) == STM_DONE && value == 10 && version == 4);
+    wants(stm_service_value(s, "n", 1, &value, &version) == STM_DONE && value == 10 && version == 4);
     struct judged judged = {{" memory ", "\nmemory "}, {0}, 0};
     judges_the_last(s, &judged);
     wants(judged.lines[1] == 1);
@@ -65,9 +64,9 @@ static void each_end(void) {
 static void unknown_names(stm_service *s) {
     int64_t value = 5;
     uint64_t version = 6;
-    wants(stm_service_transaction(s, bytes("in"), 2) == STM_UNKNOWN);
+    wants(stm_service_transaction(s, "in", 2) == STM_UNKNOWN);
     wants(stm_service_transaction(s, NULL, 0) == STM_UNKNOWN);
-    wants(stm_service_value(s, bytes("inc"), 3, &value, &version) == STM_UNKNOWN && value == 5 && version == 6);
+    wants(stm_service_value(s, "inc", 3, &value, &version) == STM_UNKNOWN && value == 5 && version == 6);
     for (uint32_t unknown = 7; unknown != 0; unknown = unknown == 7 ? UINT32_MAX : 0) {
         wants(is(stm_atomically(s, unknown, NULL, 0), STM_UNKNOWN, 0, 0));
         wants(is(stm_try_atomically(s, unknown, NULL, 0), STM_UNKNOWN, 0, 0));
@@ -77,7 +76,7 @@ static void unknown_names(stm_service *s) {
 }
 
 static void short_rooms(stm_service *s) {
-    uint8_t room[1000];
+    char room[1000];
     size_t report = 0, file = 0, again = 0;
     wants(stm_service_report(s, NULL, 0, &report) == STM_SHORT && stm_service_file(s, NULL, 0, &file) == STM_SHORT);
     wants(report > 0 && report < sizeof room && file > 0 && file < sizeof room);
@@ -123,7 +122,7 @@ static int32_t opened(const char *text, size_t room, uint32_t observers, hook *e
     static struct judged judged;
     stm_service_options options = {room, 0, observers, ended, &judged};
     stm_service *s = (stm_service *)&options;
-    int32_t code = stm_service_open(bytes(text), strlen(text), &options, &s);
+    int32_t code = stm_service_open(text, strlen(text), &options, &s);
     wants((code == STM_DONE) == (s != NULL));
     stm_service_free(s);
     return code;
@@ -165,7 +164,7 @@ static void the_longest_chapters(void) {
 
 /* A hook that fails so many times. */
 static int failures;
-static int fails_first(void *own, const uint8_t *file, size_t file_length, const uint8_t *report, size_t report_length) {
+static int fails_first(void *own, const char *file, size_t file_length, const char *report, size_t report_length) {
     wants(judges(own, file, file_length, report, report_length) == 0);
     return failures-- > 0 ? 1 : 0;
 }
@@ -198,10 +197,17 @@ static void *waits(void *expects) {
 }
 
 static long lines_now(stm_service *s, const char *word) {
-    static uint8_t report[1 << 20];
+    static char report[1 << 20];
     size_t length;
     wants(stm_service_report(s, report, sizeof report, &length) == STM_DONE);
-    return lines_with((const char *)report, length, word);
+    return lines_with(report, length, word);
+}
+
+static bool counts(stm_service *s, uint64_t entered, uint64_t chapter, uint64_t waiting, uint64_t woken, uint64_t space) {
+    stm_service_counts told;
+    stm_service_get_counts(s, &told);
+    return told.entered == entered && told.chapter == chapter && told.waiting == waiting && told.woken == woken &&
+           told.stale == 0 && told.room == space;
 }
 
 /* Comes back when so many tasks wait. */
@@ -249,13 +255,16 @@ static void where_each_was_entered(void) {
     stm_answer told = {.code = STM_UNKNOWN};
     pthread_t thread;
     wants(pthread_create(&thread, NULL, waits_for_answer, &told) == 0);
+    wants(counts(s, 0, 0, 0, 0, 3) || counts(s, 0, 0, 1, 0, 2));
     until_there_wait(s, 1);
+    wants(counts(s, 0, 0, 1, 0, 2));
     wants(is_at(stm_atomically(s, INC, NULL, 0), 1, 0, 1, 0) && is_at(stm_try_atomically(s, INC, NULL, 0), 2, 0, 2, 1));
+    wants(counts(s, 2, 0, 1, 0, 0));
     wants(is_at(stm_atomically_within(s, INC, NULL, 0, UINT64_MAX), 3, 1, 1, 2));
     wants(is(stm_try_atomically(s, WAIT, NULL, 0), STM_RETRIES, 0, 0));
     wants(is_at(stm_atomically(s, GO, NULL, 0), 4, 1, 2, 3));
     pthread_join(thread, NULL);
-    wants(is_at(told, 0, 1, 3, 4) && told.value == 5);
+    wants(is_at(told, 0, 1, 3, 4) && told.value == 5 && counts(s, 5, 1, 0, 1, 0));
     wants(is_at(stm_try_atomically(s, WAIT, NULL, 0), 5, 2, 1, 5));
     wants(is(stm_service_observe(s, WAIT, NULL, 0), STM_DONE, 5, 0) && is_at(stm_atomically(s, INC, NULL, 0), 6, 2, 2, 6));
     stm_service_free(s);

@@ -212,7 +212,7 @@ static void it_is_moved() {
 static void it_is_let_go() {
     long before = blocks;
     stm_program program = {nullptr};
-    wants(stm_read(stm::detail::bytes(TEXT), sizeof TEXT - 1, &program) == STM_DONE);
+    wants(stm_read(TEXT, sizeof TEXT - 1, &program) == STM_DONE);
     stm_program_free(&program);
     long of_a_program = blocks - before;
     before = blocks;

@@ -18,7 +18,7 @@ static const char TEXT[] = "(stm 3)(var n 0)(table inc 5 0)(tx inc () (set n (ad
 static const char ONE[] = "(var n 0)(tx inc (set n (add n 1)) n)(tx get (if (lt n 5) (retry) (skip)) n)";
 
 static bool is_in, goes_on, is_free;
-static uint8_t *page;
+static char *page;
 
 static void set(bool *flag) { __atomic_store_n(flag, true, __ATOMIC_RELEASE); }
 static bool is_set(bool *flag) { return __atomic_load_n(flag, __ATOMIC_ACQUIRE); }
@@ -49,11 +49,11 @@ static void begins_with(const char *text) {
     int zero = open("/dev/zero", O_RDWR);
     page = mmap(NULL, PAGE_ROOM, PROT_READ | PROT_WRITE, MAP_PRIVATE, zero, 0);
     wants(page != MAP_FAILED && close(zero) == 0);
-    strcpy((char *)page, text);
+    strcpy(page, text);
     wants(mprotect(page, PAGE_ROOM, PROT_NONE) == 0);
 }
 
-typedef int64_t looks_up(const stm_service *, const uint8_t *, size_t);
+typedef int64_t looks_up(const stm_service *, const char *, size_t);
 
 struct look {
     stm_service *service;
@@ -145,7 +145,7 @@ static void askers_are_in_a_call(int count) {
     munmap(page, PAGE_ROOM);
 }
 
-static int waits_in_it(void *own, const uint8_t *file, size_t file_length, const uint8_t *report, size_t report_length) {
+static int waits_in_it(void *own, const char *file, size_t file_length, const char *report, size_t report_length) {
     (void)own, (void)file, (void)file_length, (void)report, (void)report_length;
     set(&is_in);
     until(&goes_on);
@@ -233,7 +233,7 @@ static void a_child_while_a_call_waits(void) {
     size_t length;
     do {
         sleep_shortly();
-        wants(stm_service_report(s, (uint8_t *)report, sizeof report - 1, &length) == STM_DONE);
+        wants(stm_service_report(s, report, sizeof report - 1, &length) == STM_DONE);
         report[length] = 0;
     } while (!strstr(report, "\nparked "));
     child_of(s);

@@ -31,7 +31,7 @@ static void until(bool *flag) {
     while (!is_set(flag)) rests(100);
 }
 
-static int keeps(void *own, const uint8_t *file, size_t file_length, const uint8_t *report, size_t report_length) {
+static int keeps(void *own, const char *file, size_t file_length, const char *report, size_t report_length) {
     struct host *host = own;
     __atomic_add_fetch(&host->told, 1, __ATOMIC_RELAXED);
     set(&host->is_in);
@@ -165,7 +165,7 @@ static void all_wait_while_one_is_not_kept(void) {
     }
     static char report[100000];
     size_t length;
-    do rests(1000), wants(stm_service_report(s, (uint8_t *)report, sizeof report, &length) == STM_DONE);
+    do rests(1000), wants(stm_service_report(s, report, sizeof report, &length) == STM_DONE);
     while (lines_with(report, length, "\nparked ") < ROOM);
     wants(host.told == 1 && stm_service_chapter(s) == 1);
     /* It is asked once more, and keeps it; but there is no room all the same. */

@@ -72,7 +72,7 @@ static uint64_t find_entries(const char *report, size_t length, uint64_t chapter
     return entries;
 }
 
-static void keep(struct host *host, const uint8_t *file, size_t file_length, const uint8_t *report, size_t length) {
+static void keep(struct host *host, const char *file, size_t file_length, const char *report, size_t length) {
     static char text[MOST_TEXT];
     wants(length < sizeof text && stm_check(file, file_length, report, length) == STM_DONE);
     memcpy(text, report, length);
@@ -80,7 +80,7 @@ static void keep(struct host *host, const uint8_t *file, size_t file_length, con
     host->entries += find_entries(text, length, host->chapters++);
 }
 
-static int keeps(void *own, const uint8_t *file, size_t file_length, const uint8_t *report, size_t report_length) {
+static int keeps(void *own, const char *file, size_t file_length, const char *report, size_t report_length) {
     struct host *host = own;
     wants(__atomic_exchange_n(&host->is_told, 1, __ATOMIC_ACQ_REL) == 0);
     int is_kept = drawn(&host->seed) % 4 != 0;
@@ -92,7 +92,7 @@ static int keeps(void *own, const uint8_t *file, size_t file_length, const uint8
 }
 
 static void keeps_the_last(struct host *host) {
-    static uint8_t file[MOST_TEXT], report[MOST_TEXT];
+    static char file[MOST_TEXT], report[MOST_TEXT];
     size_t file_length, report_length;
     wants(stm_service_file(service, file, sizeof file, &file_length) == STM_DONE);
     wants(stm_service_report(service, report, sizeof report, &report_length) == STM_DONE);
@@ -168,7 +168,7 @@ static int lives(void) {
     pthread_t threads[THREADS];
     memset(called, 0, sizeof called);
     memset(found, 0, sizeof found);
-    wants(stm_service_open((const uint8_t *)TEXT, strlen(TEXT), &options, &service) == STM_DONE);
+    wants(stm_service_open(TEXT, strlen(TEXT), &options, &service) == STM_DONE);
     for (int i = 0; i < THREADS; i++) wants(pthread_create(&threads[i], NULL, calls, &called[i * CALLS]) == 0);
     rests(drawn(&seed) % 4000);
     stm_service_close(service);

@@ -191,10 +191,10 @@ static void *gets_one(void *told) {
 }
 
 static void until_there_wait(long count) {
-    static uint8_t report[1 << 20];
+    static char report[1 << 20];
     size_t length;
     do rests(1000), wants(stm_service_report(service, report, sizeof report, &length) == STM_DONE);
-    while (lines_with((const char *)report, length, "\nparked ") < count);
+    while (lines_with(report, length, "\nparked ") < count);
 }
 
 /* It is let go while a hundred threads evaluate what woke. */
@@ -217,7 +217,7 @@ static void let_go_while_they_run(void) {
 /* Reports and files are asked for all the time: what runs then has its turn first. */
 static int is_over;
 static void *asks(void *own) {
-    static uint8_t room[MOST_REPORT];
+    static char room[MOST_REPORT];
     size_t length;
     while (!__atomic_load_n(&is_over, __ATOMIC_RELAXED)) {
         wants(stm_service_report(service, room, sizeof room, &length) == STM_DONE);

@@ -49,7 +49,7 @@ static stm_answer within(stm_service *s, uint32_t transaction, const int64_t *ar
 }
 
 /* Judges a chapter, while nothing is refused or counted. */
-static int judges_in_peace(void *own, const uint8_t *file, size_t file_length, const uint8_t *report, size_t report_length) {
+static int judges_in_peace(void *own, const char *file, size_t file_length, const char *report, size_t report_length) {
     long of = refused, made = requests, most = most_bytes;
     refused = 0;
     int failed = judges(own, file, file_length, report, report_length);
@@ -59,11 +59,11 @@ static int judges_in_peace(void *own, const uint8_t *file, size_t file_length, c
 
 /* All of a service's life: how many refusals were told. */
 static int lives(void) {
-    static uint8_t room[10000];
+    static char room[10000];
     struct judged judged = {{"\nentry "}, {0}, 0};
     stm_service_options options = {3, 0, 2, judges_in_peace, &judged};
     stm_service *s = NULL;
-    int32_t code = stm_service_open((const uint8_t *)TEXT, strlen(TEXT), &options, &s);
+    int32_t code = stm_service_open(TEXT, strlen(TEXT), &options, &s);
     if (code != STM_DONE) return wants(code == STM_MEMORY && s == NULL), 1;
     int told_of = 0;
     int64_t first = value_of(s, "n");
@@ -96,7 +96,7 @@ static int lives(void) {
 static void each_refusal(void) {
     stm_program program = {0};
     long before = blocks;
-    wants(stm_read((const uint8_t *)TEXT, strlen(TEXT), &program) == STM_DONE);
+    wants(stm_read(TEXT, strlen(TEXT), &program) == STM_DONE);
     stm_program_free(&program);
     long stays = blocks - before, told_of = 0;
     before = blocks, requests = 0;
@@ -133,12 +133,12 @@ static void by_two(void) {
 }
 
 static void until_all_wait(void) {
-    static uint8_t report[MOST_REPORT];
+    static char report[MOST_REPORT];
     for (long parked = 0; parked < WAITERS; nanosleep(&(struct timespec){0, 1000000}, NULL)) {
         size_t length;
         wants(stm_service_report(service, report, sizeof report, &length) == STM_DONE);
         /* One is the file's own. */
-        parked = lines_with((const char *)report, length, "\nparked ") - 1;
+        parked = lines_with(report, length, "\nparked ") - 1;
     }
 }
 

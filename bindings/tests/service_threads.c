@@ -102,10 +102,10 @@ static void *gets_to_the_end(void *own) {
 }
 
 static long waiting(void) {
-    static uint8_t report[1 << 20];
+    static char report[1 << 20];
     size_t length;
     wants(stm_service_report(service, report, sizeof report, &length) == STM_DONE);
-    return lines_with((const char *)report, length, "\nparked ");
+    return lines_with(report, length, "\nparked ");
 }
 
 static void rests(long microseconds) { nanosleep(&(struct timespec){0, microseconds * 1000}, NULL); }

@@ -11,7 +11,7 @@
 
 enum { SIZE = 1 << 20, PAINT = 0xa5, OPENS = 6, CALLS = 8 };
 
-static uint8_t file[1 << 20], report[8388608], *room;
+static char file[1 << 20], report[8388608], *room;
 static size_t length, report_length, wanted;
 static const char schedule[] = "begin 0\ncommit 0\n";
 static int call, refused;
@@ -93,7 +93,7 @@ static void *makes(void *unused) {
     switch (call) {
     case 0: code = stm_run_one(file, length, 0, room, sizeof report, &wanted); break;
     case 1: code = stm_check(file, length, report, report_length); break;
-    case 2: code = stm_world(file, length, (const uint8_t *)schedule, strlen(schedule), room, sizeof report, &wanted); break;
+    case 2: code = stm_world(file, length, schedule, strlen(schedule), room, sizeof report, &wanted); break;
     case 3: code = stm_explore(file, length, 100, room, sizeof report, &wanted); break;
     case 4: code = stm_explore_to(file, length, 100, 1, room, sizeof report, &wanted); break;
     case 5: code = host(); break;

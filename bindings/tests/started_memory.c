@@ -71,7 +71,7 @@ static void lives(int more) {
     stm_service_options options = {(size_t)more + 12, 0, 2, stm_takes_chapters, NULL};
     stm_service *s = NULL;
     begun = told_memory = 0;
-    int32_t code = stm_service_open((const uint8_t *)TEXT, strlen(TEXT), &options, &s);
+    int32_t code = stm_service_open(TEXT, strlen(TEXT), &options, &s);
     if (code != STM_DONE) {
         wants(code == STM_MEMORY && !s);
         return;
@@ -91,7 +91,7 @@ static void lives(int more) {
 static long stays(void) {
     stm_program program = {0};
     long before = blocks;
-    wants(stm_read((const uint8_t *)TEXT, strlen(TEXT), &program) == STM_DONE);
+    wants(stm_read(TEXT, strlen(TEXT), &program) == STM_DONE);
     stm_program_free(&program);
     return blocks - before;
 }
@@ -128,7 +128,7 @@ static void wait_at_a_desk(void) {
     stm_store store = {0};
     stm_desk desk = {0};
     stm_job job;
-    wants(stm_read((const uint8_t *)TEXT, strlen(TEXT), &program) == STM_DONE);
+    wants(stm_read(TEXT, strlen(TEXT), &program) == STM_DONE);
     wants(stm_open_with_room(&program, 0, 0, MANY, &store) == STM_DONE && stm_open_desk(&store, &desk) == STM_DONE);
     long before = bytes, of_blocks = blocks;
     for (long i = 1; i <= MANY; i++) {
@@ -144,7 +144,7 @@ static void what_one_takes(void) {
     stm_service_options options = {MANY, 0, 0, NULL, NULL};
     stm_service *s = NULL;
     wait_at_a_desk();
-    wants(stm_service_open((const uint8_t *)TEXT, strlen(TEXT), &options, &s) == STM_DONE);
+    wants(stm_service_open(TEXT, strlen(TEXT), &options, &s) == STM_DONE);
     long before = bytes, of_blocks = blocks;
     for (long i = 1; i <= MANY; i++) {
         wants(stm_start(s, WAIT, NULL, 0, nothing, NULL) == i - 1);

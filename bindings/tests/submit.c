@@ -66,7 +66,7 @@ static int submit_all(uint32_t transaction, size_t count, size_t before) {
 }
 
 static int told(size_t tasks) {
-    static uint8_t file[1 << 20], report[8388608];
+    static char file[1 << 20], report[8388608];
     size_t file_length = 0, report_length = 0;
     stm_counts counts;
     if (stm_report(&store, report, sizeof report, &report_length) != STM_DONE) return 0;
@@ -79,7 +79,7 @@ static int told(size_t tasks) {
 }
 
 int main(int count, char **words) {
-    static uint8_t file[1 << 20];
+    static char file[1 << 20];
     static stm_worker workers[MOST];
     pthread_t pool[MOST];
     if (count != 5) return 9;
@@ -94,14 +94,14 @@ int main(int count, char **words) {
     if (none.ticket != STM_EMPTY || stm_submit(&store, 0, NULL, 0) != STM_EMPTY) return 2;
     if (stm_read(file, length, &program) != STM_DONE) return 2;
     size_t tasks = stm_program_tasks(&program);
-    int64_t transaction = stm_program_transaction(&program, (const uint8_t *)words[2], strlen(words[2]));
+    int64_t transaction = stm_program_transaction(&program, words[2], strlen(words[2]));
     if (transaction < 0) return 2;
     if (stm_open_with_room(&program, (size_t)threads, 0, 65537 - tasks, &store) != STM_NO_ROOM) return 2;
     if (stm_open_with_room(&program, (size_t)threads, 0, room, &store) != STM_DONE) return 2;
     if (stm_open_lender(&store, &lender) != STM_DONE) return 2;
     int64_t value = 0;
     uint64_t version = 0;
-    if (stm_value(&store, (const uint8_t *)"?", 1, &value, &version) != STM_UNKNOWN) return 3;
+    if (stm_value(&store, "?", 1, &value, &version) != STM_UNKNOWN) return 3;
     for (int i = 0; i < threads; i++)
         if (stm_open_worker(&store, &workers[i]) != STM_DONE) return 3;
     for (int i = 0; i < threads; i++)

@@ -27,7 +27,7 @@ static int64_t value;
 static uint64_t version;
 
 static int64_t table_of(const char *name) {
-    return stm_program_table(&program, (const uint8_t *)name, strlen(name));
+    return stm_program_table(&program, name, strlen(name));
 }
 
 static int is(int32_t code, int64_t wanted, uint64_t changed) {
@@ -35,7 +35,7 @@ static int is(int32_t code, int64_t wanted, uint64_t changed) {
 }
 
 static int32_t named(const char *name) {
-    return stm_value(&store, (const uint8_t *)name, strlen(name), &value, &version);
+    return stm_value(&store, name, strlen(name), &value, &version);
 }
 
 /* Nothing is written where there is no such cell. */
@@ -51,7 +51,7 @@ static void declared(void) {
     wants(stm_program_cells(&program, 0) == 4 && stm_program_cells(&program, 1) == 2);
     wants(stm_program_cells(&program, 2) == STM_UNKNOWN && stm_program_cells(&program, UINT32_MAX) == STM_UNKNOWN);
     wants(stm_program_tables(&none) == 0 && stm_program_cells(&none, 0) == STM_EMPTY);
-    wants(stm_program_table(&none, (const uint8_t *)"acct", 4) == STM_EMPTY);
+    wants(stm_program_table(&none, "acct", 4) == STM_EMPTY);
 }
 
 static void single(void) {
@@ -91,7 +91,7 @@ static void faults(void) {
 
 /* The same of a service, which is looked at also once it is closed. */
 static void cells_of_a_service(void) {
-    const uint8_t acct[] = "acct", wrong[] = "acct[0]";
+    const char acct[] = "acct", wrong[] = "acct[0]";
     const int64_t given[] = {0, 3, 60};
     int64_t values[3] = {-7, -7, -7};
     stm_service *service = opens(TEXT, NULL);
@@ -170,7 +170,7 @@ static void woken_by_their_own(void) {
 
 int main(void) {
     alarm(300);
-    wants(stm_read((const uint8_t *)TEXT, strlen(TEXT), &program) == STM_DONE);
+    wants(stm_read(TEXT, strlen(TEXT), &program) == STM_DONE);
     wants(stm_open_with_room(&program, 0, 0, 4, &store) == STM_DONE && stm_open_lender(&store, &lender) == STM_DONE);
     declared();
     single();

@@ -21,9 +21,9 @@ static int32_t incs(stm_service *s, int times) {
 }
 
 /* A text of the chapter, in a room that is as long as it has to be. */
-static uint8_t *text_of(stm_ended *chapter, int32_t (*by)(stm_ended *, uint8_t *, size_t, size_t *), size_t *length) {
+static char *text_of(stm_ended *chapter, int32_t (*by)(stm_ended *, char *, size_t, size_t *), size_t *length) {
     wants(by(chapter, NULL, 0, length) == STM_SHORT);
-    uint8_t *text = malloc(*length);
+    char *text = malloc(*length);
     wants(text && by(chapter, text, *length, length) == STM_DONE);
     return text;
 }
@@ -32,8 +32,8 @@ static uint8_t *text_of(stm_ended *chapter, int32_t (*by)(stm_ended *, uint8_t *
 static bool is(stm_ended *chapter, uint64_t number, long entries) {
     struct judged judged = {{"\nentry "}, {0}, 0};
     size_t file_length, report_length;
-    uint8_t *file = text_of(chapter, stm_ended_file, &file_length);
-    uint8_t *report = text_of(chapter, stm_ended_report, &report_length);
+    char *file = text_of(chapter, stm_ended_file, &file_length);
+    char *report = text_of(chapter, stm_ended_report, &report_length);
     judges(&judged, file, file_length, report, report_length);
     free(file);
     free(report);

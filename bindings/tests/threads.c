@@ -87,7 +87,7 @@ static double run_all(stm_worker *workers, int threads, stm_worker *observer) {
 }
 
 int main(int count, char **words) {
-    static uint8_t file[1 << 20], report[8388608];
+    static char file[1 << 20], report[8388608];
     static stm_worker workers[MOST];
     FILE *input = count < 3 ? NULL : fopen(words[1], "rb");
     if (!input) return 9;

@@ -7,7 +7,7 @@
 #include <string.h>
 
 struct text {
-    uint8_t *bytes;
+    char *bytes;
     size_t length;
 };
 
@@ -24,7 +24,7 @@ static char **words;
 static struct text file, schedule;
 
 /* The call that the first word names, into a room of this size. */
-static int32_t called(uint8_t *room, size_t size, size_t *wanted) {
+static int32_t called(char *room, size_t size, size_t *wanted) {
     uint32_t states = words[3] ? (uint32_t)strtoul(words[3], NULL, 10) : 0;
     if (strcmp(words[1], "run") == 0) return stm_run_one(file.bytes, file.length, 0, room, size, wanted);
     if (strcmp(words[1], "world") == 0)
@@ -42,7 +42,7 @@ static int checked(void) {
 }
 
 int main(int count, char **given) {
-    static uint8_t room[8388608];
+    static char room[8388608];
     size_t wanted = 0, again = 0;
     words = given;
     if (count < 3) return 9;

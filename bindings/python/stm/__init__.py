@@ -37,12 +37,13 @@ from ._faults import (
 )
 from ._files import Verdict, check, explain, explore, explore_to, run, version, world
 from ._names import Declared
-from ._service import Service
+from ._service import Counts, Service
 from ._table import Table
 
 __all__ = [
     "Broken",
     "Closed",
+    "Counts",
     "Declared",
     "DivideByZero",
     "Error",

@@ -47,6 +47,17 @@ class Options(ctypes.Structure):
     ]
 
 
+class Counts(ctypes.Structure):
+    _fields_ = [
+        ("entered", ctypes.c_uint64),
+        ("chapter", ctypes.c_uint64),
+        ("waiting", ctypes.c_uint64),
+        ("woken", ctypes.c_uint64),
+        ("stale", ctypes.c_uint64),
+        ("room", ctypes.c_uint64),
+    ]
+
+
 class EndedChapter(ctypes.Structure):
     _fields_ = [("at", ctypes.c_void_p)]
 
@@ -135,6 +146,7 @@ CALLS: Dict[str, Tuple[Any, List[Any]]] = {
     ),
     "stm_service_entered": (_COUNT, [_SERVICE]),
     "stm_service_chapter": (_COUNT, [_SERVICE]),
+    "stm_service_get_counts": (None, [_SERVICE, ctypes.POINTER(Counts)]),
     "stm_service_report": (_CODE, [_SERVICE, *_ROOM]),
     "stm_service_file": (_CODE, [_SERVICE, *_ROOM]),
     "stm_service_close": (None, [_SERVICE]),

@@ -56,6 +56,22 @@ _begin = struct.Struct(_declared.BEGIN).pack_into
 _ARGUMENTS = _declared.Request.arguments.offset
 
 
+class Counts(NamedTuple):
+    """Counts of a service, all of one moment."""
+
+    # The entries in all chapters, and the number of the chapter, from 0 on.
+    entered: int
+    chapter: int
+    # The calls that wait for what others commit, or whose long transaction is evaluated.
+    waiting: int
+    # How often one that waited was entered.
+    woken: int
+    # How often what a long transaction had read was changed meanwhile, so that it was evaluated once more.
+    stale: int
+    # How many tasks more the chapter has room for.
+    room: int
+
+
 class _Transaction(NamedTuple):
     name: str
     number: int
@@ -251,6 +267,13 @@ class Service:
     def entered(self) -> int:
         """How many entries there were in all chapters."""
         return self._asks(library.stm_service_entered)
+
+    @property
+    def counts(self) -> Counts:
+        """How many entries, calls that wait and tasks with room there are, all of one moment."""
+        told = _declared.Counts()
+        self._asks(library.stm_service_get_counts, ctypes.byref(told))
+        return Counts(told.entered, told.chapter, told.waiting, told.woken, told.stale, told.room)
 
     def report(self) -> str:
         """The report of the present chapter."""

@@ -127,11 +127,13 @@ class Calls(unittest.TestCase):
             waiting = threading.Thread(target=waits)
             waiting.start()
             until_parked(service)
+            self.assertEqual(service.counts, (0, 0, 1, 0, 0, 2))
             # Two increments a chapter beside the one that waits.
             for _ in range(4):
                 service.atomically("inc")
             waiting.join(LONG)
             self.assertEqual((told, service.chapter), ([(4, 0, 1, 3, 4)], 1))
+            self.assertEqual(service.counts, (5, 1, 0, 1, 0, 0))
             with self.assertRaises(stm.Thrown) as raised:
                 service.atomically("bad")
             self.assertEqual(entered_at(raised.exception), (5, 2, 1, 5))

@@ -40,7 +40,7 @@ pub use declare::{
 };
 pub use declared::Declared;
 pub use error::{Error, Fault, FileFault, NotKept, ScheduleFault};
-pub use raw::{Counts, Part, Verdict};
+pub use raw::{Counts, Part, ServiceCounts, Verdict};
 pub use service::{Receipts, Service, ServiceOptions};
 pub use store::{run, run_with, Program, RunOptions, Store, Worker};
 

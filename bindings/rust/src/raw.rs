@@ -11,7 +11,7 @@ mod service;
 
 pub use calls::RawCall;
 pub use explaining::explain;
-pub use service::{Keep, RawService};
+pub use service::{Keep, RawService, ServiceCounts};
 
 use crate::answers::{Answer, Arguments, End, Entered, Job, Outcome, Standing, Ticket, Way};
 use crate::declared::Declared;

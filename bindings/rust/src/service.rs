@@ -4,7 +4,7 @@ use crate::answers::Receipt;
 use crate::call::Call;
 use crate::declared::Declared;
 use crate::error::{Error, Fault, NotKept};
-use crate::raw::{Keep, RawService};
+use crate::raw::{Keep, RawService, ServiceCounts};
 use std::fmt::Debug;
 use std::time::Duration;
 
@@ -108,6 +108,19 @@ impl Service {
     pub fn open_with(text: &str, options: ServiceOptions) -> Result<Service, Error> {
         let ServiceOptions { room, checkpoint, observers, keep } = options;
         Ok(Service { raw: RawService::open(text.as_bytes(), room, checkpoint, observers, keep)? })
+    }
+
+    /// How many entries, calls that wait and tasks with room there are, all of one moment.
+    ///
+    /// ```
+    /// let service = stm::Service::open_with("(tx nothing (skip) 0)", stm::ServiceOptions::new().room(3))?;
+    /// service.atomically(0, &[]).expect("it returns");
+    /// let counts = service.counts();
+    /// assert_eq!((counts.entered, counts.chapter, counts.waiting, counts.room), (1, 0, 0, 2));
+    /// # Ok::<(), stm::Error>(())
+    /// ```
+    pub fn counts(&self) -> ServiceCounts {
+        self.raw.counts()
     }
 
     /// What its program declares.

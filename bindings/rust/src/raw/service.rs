@@ -30,7 +30,26 @@ struct Options {
     own: *mut c_void,
 }
 
+/// Counts of a service, of one moment.
+#[repr(C)]
+#[derive(Clone, Copy, Debug, Default, PartialEq, Eq)]
+pub struct ServiceCounts {
+    /// The entries in all chapters.
+    pub entered: u64,
+    /// The number of the chapter, from 0 on.
+    pub chapter: u64,
+    /// The calls that wait for what others commit, or whose long transaction is evaluated.
+    pub waiting: u64,
+    /// How often one that waited was entered.
+    pub woken: u64,
+    /// How often what a long transaction had read was changed meanwhile, so that it was evaluated once more.
+    pub stale: u64,
+    /// How many tasks more the chapter has room for.
+    pub room: u64,
+}
+
 extern "C" {
+    fn stm_service_get_counts(service: *mut c_void, out: *mut ServiceCounts);
     fn stm_service_open(
         file: *const u8,
         file_length: usize,
@@ -192,6 +211,13 @@ impl RawService {
     /// Whether this process is a child of the one that has opened it.
     pub(super) fn is_of_another_process(&self) -> bool {
         self.process != std::process::id()
+    }
+
+    pub fn counts(&self) -> ServiceCounts {
+        let mut out = ServiceCounts::default();
+        // SAFETY: `out` is written.
+        unsafe { stm_service_get_counts(self.at, &mut out) };
+        out
     }
 
     pub fn declared(&self) -> Declared {
