@@ -17,6 +17,7 @@ pub mod Long
 pub mod Looking
 pub mod Made
 pub mod Named
+pub mod Names
 pub mod Numbers
 pub mod ProgramHandle
 pub mod Rooms

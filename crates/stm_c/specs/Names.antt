@@ -1,8 +1,11 @@
 -- What a call tells of the names that a program declares, by their numbers.
-use Rattle.std.specs.Prelude.{◌≡◌, ◌<◌, ◌≤◌, ℕ, ℤ, pos, List, [], ◌++◌, map, length, drop, slice_get, Option, Some, None, ◌⊎◌}
+use Rattle.std.specs.Prelude.{◌≡◌, ◌<◌, ◌≤◌, ℕ, ℤ, pos, List, [], ◌++◌, map, length, drop, option_map, slice_get, Option, Some, None, ◌⊎◌}
 use Rattle.txn_programs.specs.Tree.{Transaction}
 use Rattle.txn_programs.specs.Listing.{Listing}
 use Rattle.stm_c.specs.Numbers.{not_there, too_short}
+
+abbrev pub table_name : Listing → ℕ → Option (List ℕ)
+table_name l table = option_map (λ t. t.0) (slice_get l.tables table)
 
 abbrev pub transaction_names : Listing → List (List ℕ)
 transaction_names l = map (λ t. t.name) l.transactions

@@ -2,15 +2,15 @@
 //! parameters, each copied into the room that the host lends.
 
 ghost use Rattle.std.specs.Prelude.{◌≡◌, None, length, option_map, slice_get};
-ghost use Rattle.txn_programs.specs.Listing.{always_names, table_names};
+ghost use Rattle.txn_programs.specs.Listing.{always_names};
 ghost use Rattle.stm_c.specs.Held.{Asked};
 ghost use Rattle.stm_c.specs.Named.{IsCondition};
-ghost use Rattle.stm_c.specs.Names.{IsNameTold, parameters_of, transaction_names};
+ghost use Rattle.stm_c.specs.Names.{IsNameTold, parameters_of, table_name, transaction_names};
 
 use crate::codes::{EMPTY, UNKNOWN};
 use crate::program_handle::ProgramHandle;
 use crate::writing::copy;
-use txn::{Catalogue, TxId, VarId};
+use txn::{AlwaysId, Catalogue, TxId, VarId};
 
 /// How many standing conditions the program has, numbered from 0 as declared. 0 of an empty handle.
 #[unsafe(no_mangle)]
@@ -48,7 +48,7 @@ fn condition(catalogue: &Catalogue, name: &[u8]) -> i64
 
 /// Copies what is found to the begin of the room, where it fits; `wanted` is how long it is, 0 where nothing is found.
 fn told(name: Option<&str>, room: &mut [u8], wanted: &mut usize) -> i32
-    ensures { IsNameTold (option_map (λ s. s.now) name) room.old room.new wanted.new result }
+    ensures { IsNameTold (option_map (λ s. s.now) name.entry) room.old room.new wanted.new result }
 {
     match name {
         Some(name) => copy(name.as_bytes(), room, wanted),
@@ -106,7 +106,7 @@ pub extern "C" fn stm_program_table_name(
     wanted: &mut usize,
 ) -> i32
     ensures told { Asked program.now.value EMPTY result
-        (λ p n. IsNameTold (slice_get (table_names p.catalogue.now) table) room.old room.new wanted.new n) }
+        (λ p n. IsNameTold (table_name p.catalogue.now table) room.old room.new wanted.new n) }
     ensures none { program.now.value ≡ None → (wanted.new ≡ 0) × (room.new ≡ room.old) }
 {
     match program.get() {
@@ -116,7 +116,7 @@ pub extern "C" fn stm_program_table_name(
 }
 
 fn table_name(catalogue: &Catalogue, table: u32) -> Option<&str>
-    ensures { option_map (λ s. s.now) result ≡ slice_get (table_names catalogue.now) table }
+    ensures { option_map (λ s. s.now) result ≡ table_name catalogue.now table }
 {
     match catalogue.tables().get(table as usize) {
         Some((name, _)) => Some(name.as_str()),
@@ -146,10 +146,10 @@ pub extern "C" fn stm_program_condition_name(
 fn condition_name(catalogue: &Catalogue, condition: u32) -> Option<&str>
     ensures { option_map (λ s. s.now) result ≡ slice_get (always_names catalogue.now) condition }
 {
-    match catalogue.always().get(condition as usize) {
-        Some((name, _)) => Some(name.as_str()),
-        None => None,
+    if condition as usize >= catalogue.always().len() {
+        return None;
     }
+    Some(catalogue.always_name(AlwaysId(condition)))
 }
 
 /// Copies the name of the transaction of this number into the room: 0. -8: the room is too short, and `wanted` is how
