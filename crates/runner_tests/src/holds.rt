@@ -1,16 +1,11 @@
-//! A gate that holds workers, and runs of two increments under it.
+//! A gate that holds workers, and two increments that are held by it.
 
-use crate::parts::{options, writes_under};
+use crate::counted::comes_to;
 use runner::{Gate, Point};
-use std::alloc::Global;
-use std::process::Abort;
-use std::sync::Wait;
-use std::sync::atomic::{AtomicBool, AtomicU64, Ordering};
-use std::thread;
-use std::thread::Threads;
+use std::sync::atomic::{AtomicU64, Ordering};
 use txn::TaskId;
 
-const TWO: &str = "(var x 5)(tx inc (set x (add x 1)) x)(run inc 2)";
+pub(crate) const TWO: &str = "(var x 5)(tx inc (set x (add x 1)) x)(run inc 2)";
 
 /// The report where the second task commits first.
 pub(crate) const SWAPPED: &str =
@@ -23,64 +18,46 @@ pub(crate) const IN_TURN: &str =
 /// A point of a task.
 pub(crate) type Place = (Point, TaskId);
 
+/// How often a worker may pass a place, at which it is then held once, and until which other one was entered.
+pub(crate) type Held = (u64, Place, Place);
+
 fn is_at(place: Place, point: Point, task: TaskId) -> bool {
     place.0 == point && place.1 == task
 }
 
 /// Holds a worker one of the times that it is at a place, until another place was entered.
 #[derive(Drop)]
-pub(crate) struct Hold {
-    held: Place,
-    /// How many times it may pass before.
-    passes: u64,
-    until: Place,
+struct Hold {
+    how: Held,
+    /// How often the worker came to its place.
     came: AtomicU64,
-    opened: AtomicBool,
+    /// 1 once the other place was entered.
+    opened: AtomicU64,
 }
 
 impl Hold {
-    /// A hold of the first time.
-    pub(crate) fn new(held: Place, until: Place) -> Hold {
-        Hold::after(0, held, until)
-    }
-
-    /// A hold that nothing comes to.
-    pub(crate) fn none() -> Hold {
-        Hold::new((Point::Taken, TaskId(u32::MAX)), (Point::Taken, TaskId(0)))
-    }
-
-    /// A hold once the worker has passed so often.
-    pub(crate) fn after(passes: u64, held: Place, until: Place) -> Hold {
+    /// A hold that nobody has come to.
+    fn new(how: Held) -> Hold {
         Hold {
-            held,
-            passes,
-            until,
+            how,
             came: AtomicU64::new(0),
-            opened: AtomicBool::new(false),
+            opened: AtomicU64::new(0),
         }
     }
 
     fn enter(&self, point: Point, task: TaskId) {
-        if is_at(self.until, point, task) {
-            self.opened.store(true, Ordering::SeqCst);
+        if is_at(self.how.2, point, task) {
+            self.opened.store(1, Ordering::SeqCst);
         }
     }
 
-    /// Whether the place was entered in time.
+    /// Waits where the worker is held. Whether the other place was entered in time.
     fn wait(&self, point: Point, task: TaskId) -> bool {
-        if !is_at(self.held, point, task) {
+        if !is_at(self.how.1, point, task) {
             return true;
         }
-        if self.came.fetch_add(1, Ordering::SeqCst) != self.passes {
-            return true;
-        }
-        for _ in 0..10_000_000u32 {
-            if self.opened.load(Ordering::SeqCst) {
-                return true;
-            }
-            thread::yield_now();
-        }
-        false
+        let passed = self.came.fetch_add(1, Ordering::SeqCst);
+        passed != self.how.0 || comes_to(&self.opened, 1)
     }
 }
 
@@ -90,29 +67,27 @@ pub(crate) struct Script {
     first: Hold,
     second: Hold,
     ends: AtomicU64,
-    late: AtomicBool,
+    /// 1 once a worker was held in vain.
+    late: AtomicU64,
 }
 
 impl Script {
-    pub(crate) fn new(first: Hold, second: Hold) -> Script {
+    pub(crate) fn new(holds: [Held; 2]) -> Script {
         Script {
-            first,
-            second,
+            first: Hold::new(holds[0]),
+            second: Hold::new(holds[1]),
             ends: AtomicU64::new(0),
-            late: AtomicBool::new(false),
+            late: AtomicU64::new(0),
         }
     }
 
-    /// Waits where this one holds.
-    fn wait(&self, hold: &Hold, point: Point, task: TaskId) {
-        if !hold.wait(point, task) {
-            self.late.store(true, Ordering::SeqCst);
+    /// How often the first task ended an attempt, `None` where what a hold waits for did not come in time.
+    pub(crate) fn ends(&self) -> Option<u64> {
+        if self.late.load(Ordering::SeqCst) == 0 {
+            Some(self.ends.load(Ordering::SeqCst))
+        } else {
+            None
         }
-    }
-
-    /// Whether what a hold waits for did not come in time.
-    pub(crate) fn is_late(&self) -> bool {
-        self.late.load(Ordering::SeqCst)
     }
 }
 
@@ -123,38 +98,11 @@ impl Gate for Script {
         if is_at((Point::Ended, TaskId(0)), point, task) {
             self.ends.fetch_add(1, Ordering::SeqCst);
         }
-        self.wait(&self.first, point, task);
-        self.wait(&self.second, point, task);
-    }
-}
-
-/// Runs two increments by two workers with these holds. How often the first task ended an attempt, `None` where the
-/// report is another one or a hold waited in vain.
-pub(crate) fn hold_two(
-    rt: &(impl Threads + Wait + Sync + Abort),
-    alloc: Global,
-    tries: u32,
-    script: Script,
-    wanted: &str,
-) -> Option<u64> {
-    hold_run(rt, alloc, TWO, tries, script, wanted)
-}
-
-/// So it does with this text.
-pub(crate) fn hold_run(
-    rt: &(impl Threads + Wait + Sync + Abort),
-    alloc: Global,
-    text: &str,
-    tries: u32,
-    script: Script,
-    wanted: &str,
-) -> Option<u64> {
-    let options = options(rt, 2, tries, 0);
-    let is_so = writes_under(rt, alloc, text, options, &script, wanted, wanted);
-    let ends = script.ends.load(Ordering::SeqCst);
-    if is_so && !script.is_late() {
-        Some(ends)
-    } else {
-        None
+        // Both are asked, one behind the other.
+        let first = self.first.wait(point, task);
+        let second = self.second.wait(point, task);
+        if !first || !second {
+            self.late.store(1, Ordering::SeqCst);
+        }
     }
 }

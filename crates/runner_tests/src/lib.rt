@@ -1,12 +1,12 @@
-//! Tests of the public calls of `runner` and `world_runner`: runs under gates and in lines, and writers that fail; of
-//! those of `run_interface`, by writers of its own; of those of `file_chains`, and of those of `txn::weights`. What
-//! runs and schedules print and why files are refused is played by `cases/`.
+//! Tests of the public calls of `runner` and `world_runner`: runs under gates and in lines; of those of
+//! `run_interface`, by writers of its own; of those of `file_chains`, and of those of `txn::weights`. What runs and
+//! schedules print and why files are refused is played by `cases/`; outputs that fail are tried in `hostile_tests`.
 #![tactic(auto)]
 
 #[cfg(test)]
-mod counted;
+mod bytes;
 #[cfg(test)]
-mod drawn;
+mod counted;
 #[cfg(test)]
 mod gates;
 #[cfg(test)]
@@ -16,23 +16,13 @@ mod lines;
 #[cfg(test)]
 mod many;
 #[cfg(test)]
-mod outputs;
-#[cfg(test)]
 mod overlap;
 #[cfg(test)]
 mod parts;
 #[cfg(test)]
-mod played_parts;
-#[cfg(test)]
-mod played_refusals;
-#[cfg(test)]
 mod points;
 #[cfg(test)]
 mod printed;
-#[cfg(test)]
-mod reports;
-#[cfg(test)]
-mod schedules;
 #[cfg(test)]
 mod settings;
 #[cfg(test)]
@@ -43,5 +33,3 @@ mod sizes;
 mod texts;
 #[cfg(test)]
 mod weighed;
-#[cfg(test)]
-mod writers;

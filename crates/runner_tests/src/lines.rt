@@ -1,7 +1,7 @@
 //! Runs whose journal stays in lines.
 
 use crate::parts::options;
-use runner::{OpenGate, PackedEntry, RunReport, run_packed, run_tasks};
+use runner::{OpenGate, Options, PackedEntry, RunReport, run_packed, run_tasks};
 use std::alloc::Global;
 use std::process::Abort;
 use std::sync::Wait;
@@ -18,92 +18,78 @@ const ENDS: &str =
 /// As many tasks as there may be.
 const MOST: &str = "(var x 5)(tx inc (set x (add x 1)) x)(run inc 65536)";
 
-/// What a run leaves in lines.
-fn left(
-    rt: &(impl Abort + Threads + Wait + Sync),
+/// Whether a run tells this.
+fn is_told(
+    rt: &(impl Threads + Wait + Sync),
     alloc: Global,
     catalogue: &Catalogue,
-    workers: u32,
-) -> RunReport {
-    match run_packed(rt, alloc, catalogue, options(rt, workers, 8, 0), &OpenGate) {
-        Ok(left) => left,
-        Err(_) => panic!(rt; "no report"),
-    }
-}
-
-/// Whether the report of six lines is this one.
-fn are_told(alloc: Global, left: RunReport, told: &Report) -> bool {
-    let is_packed = left.journal.len() == 6 && left.rest.entries.is_empty();
-    match left.report(alloc) {
-        Ok(report) => is_packed && report == *told,
+    options: Options,
+    report: &Report,
+) -> bool {
+    match run_tasks(rt, alloc, catalogue, options, &OpenGate) {
+        Ok(told) => told == *report,
         Err(_) => false,
     }
 }
 
-/// Whether lines tell what a run by so many workers tells.
+/// Whether the run left six lines, which tell what a run tells.
 fn tell_the_same(
-    rt: &(impl Abort + Threads + Wait + Sync),
+    rt: &(impl Threads + Wait + Sync),
     alloc: Global,
     catalogue: &Catalogue,
-    workers: u32,
+    options: Options,
+    left: RunReport,
 ) -> bool {
-    let left = left(rt, alloc, catalogue, workers);
-    match run_tasks(rt, alloc, catalogue, options(rt, workers, 8, 0), &OpenGate) {
-        Ok(told) => are_told(alloc, left, &told),
-        Err(_) => {
-            drop(left);
-            false
-        }
-    }
-}
-
-/// Whether so do those by up to four.
-fn all_tell_the_same(
-    rt: &(impl Abort + Threads + Wait + Sync),
-    alloc: Global,
-    catalogue: &Catalogue,
-) -> bool {
-    for workers in 1..5 {
-        if !tell_the_same(rt, alloc, catalogue, workers) {
-            return false;
-        }
-    }
-    true
-}
-
-#[test]
-fn lines_tell_what_a_run_tells(rt: HostRuntime) {
-    match read_file(rt.alloc(), ENDS.as_bytes()) {
-        Ok(catalogue) => assert!(rt; all_tell_the_same(&rt, rt.alloc(), &catalogue)),
-        Err(_) => panic!(rt; "no file"),
+    let is_packed = left.journal.len() == 6 && left.rest.entries.is_empty();
+    match left.report(alloc) {
+        Ok(report) => is_told(rt, alloc, catalogue, options, &report) && is_packed,
+        Err(_) => false,
     }
 }
 
 /// Whether the last of so many lines tells of the last task.
-fn are_most(left: &RunReport) -> bool {
+fn are_most(lines: &[PackedEntry]) -> bool {
     let wanted = Entry {
         number: 65_536,
         task: TaskId(65_535),
         tx: TxId(0),
         outcome: Outcome::Returned(65_541),
     };
-    left.journal.len() == 65_536 && left.journal.last().map(PackedEntry::entry) == Some(wanted)
+    lines.len() == 65_536 && lines.last().map(PackedEntry::entry) == Some(wanted)
 }
 
-/// Whether such are left of as many tasks as there may be.
-fn most_are_left(
+/// Whether a run by so many workers leaves lines as it has to.
+fn are_left(
     rt: &(impl Abort + Threads + Wait + Sync),
     alloc: Global,
     catalogue: &Catalogue,
+    workers: u32,
 ) -> bool {
-    let left = left(rt, alloc, catalogue, 1);
-    are_most(&left)
+    let options = options(rt, workers, 8, 0);
+    let is_most = catalogue.tasks() == 65_536;
+    match run_packed(rt, alloc, catalogue, options, &OpenGate) {
+        Ok(left) if is_most => are_most(left.journal.as_slice()),
+        Ok(left) => tell_the_same(rt, alloc, catalogue, options, left),
+        Err(_) => false,
+    }
+}
+
+/// Whether so they are of the file.
+fn are_left_of(
+    rt: &(impl Abort + Threads + Wait + Sync),
+    alloc: Global,
+    file: &str,
+    workers: u32,
+) -> bool {
+    match read_file(alloc, file.as_bytes()) {
+        Ok(catalogue) => are_left(rt, alloc, &catalogue, workers),
+        Err(_) => false,
+    }
 }
 
 #[test]
-fn lines_are_of_as_many_tasks_as_there_may_be(rt: HostRuntime) {
-    match read_file(rt.alloc(), MOST.as_bytes()) {
-        Ok(catalogue) => assert!(rt; most_are_left(&rt, rt.alloc(), &catalogue)),
-        Err(_) => panic!(rt; "no file"),
+fn lines_tell_what_a_run_tells(rt: HostRuntime) {
+    for (file, workers) in [(ENDS, 1), (ENDS, 2), (ENDS, 3), (ENDS, 4), (MOST, 1)] {
+        assert!(rt; are_left_of(&rt, rt.alloc(), file, workers), "by {workers}");
     }
 }

@@ -1,14 +1,14 @@
-//! Many workers: what they leave is the same whatever the schedule.
+//! Many workers: what they leave is the same whatever the schedule. Each task is tried, since the gate is not open.
 
+use crate::counted::{add_one, times};
 use crate::parts::{Passing, options, writes_under};
-use runner::{Gate, Point, run_tasks};
+use runner::{Gate, Point};
 use std::alloc::{AllocError, Global};
 use std::process::Abort;
 use std::sync::Wait;
-use std::sync::atomic::{AtomicU64, Ordering};
+use std::sync::atomic::AtomicU64;
 use std::thread::Threads;
-use txn::{Catalogue, Report, TaskId};
-use txn_text::read_file;
+use txn::TaskId;
 
 const BUFFER: &str =
     "(var full 0)(var cell 0)(tx get (seq (if (eq full 0) (retry) (skip)) (set full 0)) cell)(tx put (seq (if (eq \
@@ -28,21 +28,17 @@ const MOVED_ONCE: &str =
 
 const THOUSAND: &str = "(var x 5)(tx inc (set x (add x 1)) x)(run inc 1000)";
 
+const ALL_TOLD: &str = "\nnow 1000\nx 1005 1000\nend\n";
+
 /// Files, where their reports begin and how these end, and the checkpoint: of a thousand tasks a journal that begins
 /// anew at 300 entries is that of the last 100.
 const SAME: &[(&str, &str, &str, u32)] = &[
     (BUFFER, PASSED_ON, PASSED_ON, 0),
     (MOVES, MOVED_ONCE, MOVED_ONCE, 0),
-    (THOUSAND, "base 0\n", "\nnow 1000\nx 1005 1000\nend\n", 0),
-    (
-        THOUSAND,
-        "base 900\nx 905 900\nentry 901 ",
-        "\nnow 1000\nx 1005 1000\nend\n",
-        300,
-    ),
+    (THOUSAND, "base 0\n", ALL_TOLD, 0),
+    (THOUSAND, "base 900\nx 905 900\nentry 901 ", ALL_TOLD, 300),
 ];
 
-/// Any number of workers leaves the same, where each task is tried.
 #[test]
 fn any_number_of_workers_leaves_the_same(rt: HostRuntime) {
     for &(file, front, end, checkpoint) in SAME {
@@ -54,14 +50,23 @@ fn any_number_of_workers_leaves_the_same(rt: HostRuntime) {
     }
 }
 
-/// How often each task was at a point. At `Ended` it counts only what came between `Taken` and
-/// `Finished`.
+/// The order that the seed 1 draws, by `cases/drawn.cases`, where no gate is asked.
+const DRAWN: &str =
+    "base 0\nx 5 0\nentry 1 2 inc returned 6\nentry 2 1 inc returned 7\nentry 3 0 inc returned 8\nnow 3\nx 8 3\nend\n";
+
+#[test]
+fn a_gate_changes_no_drawn_order(rt: HostRuntime) {
+    let file = "(var x 5)(tx inc (set x (add x 1)) x)(run inc 3)";
+    let Some(seed) = options(&rt, 1, 8, 0).with_seed(1) else {
+        panic!(rt; "no options")
+    };
+    assert!(rt; writes_under(&rt, rt.alloc(), file, seed, &Passing, DRAWN, DRAWN));
+}
+
+/// How often each task was at the points. At `Ended` it counts only what came between `Taken` and `Finished`.
 #[derive(Drop)]
 struct Counts {
-    taken: Vec<AtomicU64>,
-    needed: Vec<AtomicU64>,
-    ended: Vec<AtomicU64>,
-    finished: Vec<AtomicU64>,
+    tasks: Vec<AtomicU64>,
 }
 
 /// So many counts, each of which is 0.
@@ -73,107 +78,40 @@ pub(crate) fn zeros(alloc: Global, count: usize) -> Result<Vec<AtomicU64>, Alloc
     Ok(all)
 }
 
-fn count_of(all: &[AtomicU64], task: TaskId) -> u64 {
-    match all.get(task.0 as usize) {
-        Some(one) => one.load(Ordering::SeqCst),
-        None => 0,
-    }
-}
-
-fn count_one(all: &[AtomicU64], task: TaskId) {
-    if let Some(one) = all.get(task.0 as usize) {
-        one.fetch_add(1, Ordering::SeqCst);
-    }
-}
-
-impl Counts {
-    fn list(&self, point: Point) -> &[AtomicU64] {
-        match point {
-            Point::Taken => self.taken.as_slice(),
-            Point::Needs => self.needed.as_slice(),
-            Point::Ended => self.ended.as_slice(),
-            Point::Finished => self.finished.as_slice(),
-        }
-    }
-
-    /// How often the task was at the point.
-    fn times(&self, point: Point, task: TaskId) -> u64 {
-        count_of(self.list(point), task)
-    }
-}
-
 impl Gate for Counts {
     fn at(&self, point: Point, task: TaskId) {
-        let is_running = self.times(Point::Taken, task) == 1
-            && self.times(Point::Finished, task) == 0;
+        let Some(counts) = self.tasks.get(task.0 as usize) else {
+            return;
+        };
+        let is_running = times(counts, Point::Taken) == 1 && times(counts, Point::Finished) == 0;
         if point != Point::Ended || is_running {
-            count_one(self.list(point), task);
+            add_one(counts, point);
         }
     }
 }
 
-fn no_counts(alloc: Global) -> Result<Counts, AllocError> {
-    let taken = zeros(alloc, 1000)?;
-    let needed = zeros(alloc, 1000)?;
-    let ended = zeros(alloc, 1000)?;
-    let finished = zeros(alloc, 1000)?;
-    Ok(Counts {
-        taken,
-        needed,
-        ended,
-        finished,
-    })
-}
-
-/// Whether all thousand are told.
-fn is_of_thousand(report: &Report) -> bool {
-    report.base == 0
-        && report.now == 1000
-        && report.now_vars.as_slice() == [(1005, 1000)].as_slice()
-}
-
-/// Eight workers run a thousand tasks, each of which passes the gate.
-fn run_thousand(
-    rt: &(impl Abort + Threads + Wait + Sync),
-    alloc: Global,
-    catalogue: &Catalogue,
-    counts: &Counts,
-) {
-    match run_tasks(rt, alloc, catalogue, options(rt, 8, 64, 0), counts) {
-        Ok(report) => assert!(rt; is_of_thousand(&report)),
-        Err(_) => panic!(rt; "no report"),
-    }
-}
-
-/// Whether the task went its way once.
-fn went_once(counts: &Counts, task: TaskId) -> bool {
+/// Whether a task went its way once.
+fn went_once(counts: &AtomicU64) -> bool {
     // A task of which each of the 64 tries was stale has its turn under the lock, where no gate is.
-    let is_served = counts.times(Point::Needs, task) >= 64;
-    let has_ended = counts.times(Point::Ended, task) >= 1;
-    counts.times(Point::Taken, task) == 1
-        && counts.times(Point::Finished, task) == 1
+    let is_served = times(counts, Point::Needs) >= 64;
+    let has_ended = times(counts, Point::Ended) >= 1;
+    times(counts, Point::Taken) == 1
+        && times(counts, Point::Finished) == 1
         && (has_ended || is_served)
 }
 
-/// A thousand tasks run under the gate, and each goes its way once.
-fn counts_all(
-    rt: &(impl Abort + Eprint + Threads + Wait + Sync),
-    alloc: Global,
-    catalogue: &Catalogue,
-) {
-    let Ok(counts) = no_counts(alloc) else {
-        panic!(rt; "no counts")
+/// Whether all thousand are told, and each went its way once.
+fn go_their_way(rt: &(impl Abort + Threads + Wait + Sync), alloc: Global) -> bool {
+    let options = options(rt, 8, 64, 0);
+    let Ok(tasks) = zeros(alloc, 1000) else {
+        return false;
     };
-    run_thousand(rt, alloc, catalogue, &counts);
-    for task in 0..1000 {
-        assert!(rt; went_once(&counts, TaskId(task)), "of {task}");
-    }
+    let counts = Counts { tasks };
+    writes_under(rt, alloc, THOUSAND, options, &counts, "base 0\n", ALL_TOLD)
+        && counts.tasks.iter().all(went_once)
 }
 
 #[test]
 fn each_of_a_thousand_tasks_goes_its_way_once(rt: HostRuntime) {
-    match read_file(rt.alloc(), THOUSAND.as_bytes()) {
-        Ok(catalogue) => counts_all(&rt, rt.alloc(), &catalogue),
-        Err(_) => panic!(rt; "no catalogue"),
-    }
+    assert!(rt; go_their_way(&rt, rt.alloc()));
 }

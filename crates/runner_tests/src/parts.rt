@@ -1,6 +1,6 @@
 //! A run from bytes to bytes, and what has to come of it.
 
-use runner::{Gate, OpenGate, Options, Out, Point, RunFault, run_bytes};
+use runner::{Gate, Options, Out, Point, RunFault, run_bytes};
 use std::alloc::Global;
 use std::process::Abort;
 use std::sync::Wait;
@@ -22,45 +22,32 @@ impl Gate for Passing {
     fn at(&self, _point: Point, _task: TaskId) {}
 }
 
-/// What a run of the text with these options writes, and the fault where it ends in one.
-pub(crate) fn run_with(
-    rt: &(impl Threads + Wait + Sync),
-    alloc: Global,
-    input: &[u8],
-    options: Options,
-) -> (Vec<u8>, Option<RunFault>) {
-    let mut out = Out::new(Vec::new(alloc));
-    let fault = run_bytes(rt, alloc, input, options, &OpenGate, &mut out).err();
-    (out.into_inner(), fault)
+/// Whether the text begins and ends so; where both are the same it is the whole.
+fn is_text(text: &[u8], front: &str, end: &str) -> bool {
+    text.starts_with(front.as_bytes())
+        && text.ends_with(end.as_bytes())
+        && (front != end || text.len() == front.len())
 }
 
-/// What a run of the text with these options writes under a gate, `None` where it ends in a fault.
-pub(crate) fn run_under<G: Gate>(
+/// Whether a run of the text with these options under this gate ends in this fault, if in any, and what it writes
+/// begins and ends so; where both are the same it is the whole. It is flushed where there is no fault.
+pub(crate) fn ends_under<G: Gate>(
     rt: &(impl Threads + Wait + Sync),
     alloc: Global,
     input: &str,
     options: Options,
     gate: &G,
-) -> Option<Vec<u8>> {
-    let mut out = Out::new(Vec::new(alloc));
-    match run_bytes(rt, alloc, input.as_bytes(), options, gate, &mut out) {
-        Ok(()) => Some(out.into_inner()),
-        Err(_) => None,
-    }
-}
-
-/// Whether a run of the text with these options under a gate ends in no fault.
-pub(crate) fn is_run_under<G: Gate>(
-    rt: &(impl Threads + Wait + Sync),
-    alloc: Global,
-    input: &str,
-    options: Options,
-    gate: &G,
+    fault: Option<RunFault>,
+    front: &str,
+    end: &str,
 ) -> bool {
-    run_under(rt, alloc, input, options, gate).is_some()
+    let mut out = Out::new(Vec::new(alloc));
+    let found = run_bytes(rt, alloc, input.as_bytes(), options, gate, &mut out).err();
+    let is_so = found == fault && out.is_flushed() == fault.is_none();
+    is_text(out.into_inner().as_slice(), front, end) && is_so
 }
 
-/// Whether a run of the text with these options under this gate writes what begins and ends so.
+/// Whether it ends in no fault, and writes this.
 pub(crate) fn writes_under<G: Gate>(
     rt: &(impl Threads + Wait + Sync),
     alloc: Global,
@@ -70,11 +57,5 @@ pub(crate) fn writes_under<G: Gate>(
     front: &str,
     end: &str,
 ) -> bool {
-    match run_under(rt, alloc, input, options, gate) {
-        Some(text) => {
-            text.as_slice().starts_with(front.as_bytes())
-                && text.as_slice().ends_with(end.as_bytes())
-        }
-        None => false,
-    }
+    ends_under(rt, alloc, input, options, gate, None, front, end)
 }

@@ -1,14 +1,13 @@
 //! Which points of its life a worker comes to, in which order and how often.
 
-use crate::counted::Counted;
+use crate::counted::{Counted, are, comes_to};
 use crate::many::zeros;
-use crate::parts::{is_run_under, options, run_under};
-use runner::{Gate, Options, Point};
+use crate::parts::{options, writes_under};
+use runner::{Gate, Point};
 use std::alloc::Global;
 use std::process::Abort;
 use std::sync::Wait;
-use std::sync::atomic::{AtomicBool, AtomicU64, Ordering};
-use std::thread;
+use std::sync::atomic::{AtomicU64, Ordering};
 use std::thread::Threads;
 use txn::TaskId;
 
@@ -35,10 +34,13 @@ fn digit_of(point: Point) -> u64 {
     }
 }
 
-/// The points that one worker came to, an octal digit for each.
+/// The points that were come to, an octal digit for each.
 #[derive(Drop)]
 struct Points {
-    digits: AtomicU64,
+    /// Those of one worker that is alone.
+    alone: AtomicU64,
+    /// Those of each task.
+    tasks: Vec<AtomicU64>,
 }
 
 /// One more point, of whoever comes to these points alone.
@@ -49,33 +51,8 @@ fn note(digits: &AtomicU64, point: Point) {
 }
 
 impl Gate for Points {
-    fn at(&self, point: Point, _task: TaskId) {
-        note(&self.digits, point);
-    }
-}
-
-/// Whether one worker comes to its points.
-fn comes_to_its_points(rt: &(impl Abort + Threads + Wait + Sync), alloc: Global) -> bool {
-    let gate = Points {
-        digits: AtomicU64::new(0),
-    };
-    is_run_under(rt, alloc, KINDS, options(rt, 1, 2, 0), &gate)
-        && gate.digits.load(Ordering::SeqCst) == POINTS
-}
-
-#[test]
-fn each_kind_of_end_comes_to_its_points(rt: HostRuntime) {
-    assert!(rt; comes_to_its_points(&rt, rt.alloc()));
-}
-
-/// The points that each of five tasks came to.
-#[derive(Drop)]
-struct OfEach {
-    tasks: Vec<AtomicU64>,
-}
-
-impl Gate for OfEach {
     fn at(&self, point: Point, task: TaskId) {
+        note(&self.alone, point);
         if let Some(digits) = self.tasks.get(task.0 as usize) {
             note(digits, point);
         }
@@ -83,22 +60,28 @@ impl Gate for OfEach {
 }
 
 /// Whether each of the five came to its points.
-fn came_to_theirs(gate: &OfEach) -> bool {
-    for (digits, wanted) in gate.tasks.iter().zip(OF_EACH) {
+fn came_to_theirs(tasks: &[AtomicU64]) -> bool {
+    for (digits, wanted) in tasks.iter().zip(OF_EACH) {
         if digits.load(Ordering::SeqCst) != wanted {
             return false;
         }
     }
-    true
+    tasks.len() == 5
 }
 
-/// Whether so many workers bring each task to its points.
+/// Whether so many workers bring each task to its points; one worker comes to them in the order of the tasks.
 fn come_to_theirs(rt: &(impl Abort + Threads + Wait + Sync), alloc: Global, workers: u32) -> bool {
+    let options = options(rt, workers, 2, 0);
     let Ok(tasks) = zeros(alloc, 5) else {
         return false;
     };
-    let gate = OfEach { tasks };
-    is_run_under(rt, alloc, KINDS, options(rt, workers, 2, 0), &gate) && came_to_theirs(&gate)
+    let gate = Points {
+        alone: AtomicU64::new(0),
+        tasks,
+    };
+    writes_under(rt, alloc, KINDS, options, &gate, "base 0\n", "\nend\n")
+        && came_to_theirs(gate.tasks.as_slice())
+        && (workers > 1 || gate.alone.load(Ordering::SeqCst) == POINTS)
 }
 
 #[test]
@@ -110,9 +93,11 @@ fn any_number_of_workers_brings_each_task_to_its_points(rt: HostRuntime) {
 
 /// Whether one worker comes to each point 3,000 times.
 fn runs_all(rt: &(impl Abort + Threads + Wait + Sync), alloc: Global) -> bool {
+    let options = options(rt, 1, 2, 0);
     let file = "(var x 5)(tx inc (set x (add x 1)) x)(run inc 3000)";
     let gate = Counted::new();
-    is_run_under(rt, alloc, file, options(rt, 1, 2, 0), &gate) && gate.are([3000, 3000, 3000, 3000])
+    writes_under(rt, alloc, file, options, &gate, "base 0\n", "\nend\n")
+        && are(&gate.counts, [3000, 3000, 3000, 3000])
 }
 
 #[test]
@@ -120,45 +105,48 @@ fn a_worker_runs_all_tasks_by_itself(rt: HostRuntime) {
     assert!(rt; runs_all(&rt, rt.alloc()));
 }
 
-/// Waits until the count is so high. Whether it was in time.
-fn comes_to(count: &AtomicU64, wanted: u64) -> bool {
-    for _ in 0..10_000_000u32 {
-        if count.load(Ordering::SeqCst) >= wanted {
-            return true;
-        }
-        thread::yield_now();
-    }
-    false
-}
-
-/// Holds each worker that took a task until sixteen did.
+/// Holds each worker at a point until sixteen came there.
 #[derive(Drop)]
-struct Sixteen {
-    taken: AtomicU64,
-    late: AtomicBool,
+pub(crate) struct Sixteen {
+    pub(crate) held: Point,
+    pub(crate) came: AtomicU64,
+    /// 1 once one was held in vain.
+    pub(crate) late: AtomicU64,
 }
 
 impl Gate for Sixteen {
     fn at(&self, point: Point, _task: TaskId) {
-        if point == Point::Taken {
-            self.taken.fetch_add(1, Ordering::SeqCst);
-            if !comes_to(&self.taken, 16) {
-                self.late.store(true, Ordering::SeqCst);
-            }
+        if point != self.held {
+            return;
         }
+        self.came.fetch_add(1, Ordering::SeqCst);
+        if !comes_to(&self.came, 16) {
+            self.late.store(1, Ordering::SeqCst);
+        }
+    }
+}
+
+impl Sixteen {
+    pub(crate) fn new(held: Point) -> Sixteen {
+        Sixteen {
+            held,
+            came: AtomicU64::new(0),
+            late: AtomicU64::new(0),
+        }
+    }
+
+    /// Whether sixteen came in time, and no more.
+    pub(crate) fn came_at_once(&self) -> bool {
+        self.late.load(Ordering::SeqCst) == 0 && self.came.load(Ordering::SeqCst) == 16
     }
 }
 
 /// Whether sixteen workers take a task each before one goes on.
 fn have_one_at_once(rt: &(impl Abort + Threads + Wait + Sync), alloc: Global) -> bool {
+    let options = options(rt, 16, 64, 0);
     let file = "(var x 5)(tx inc (set x (add x 1)) x)(run inc 16)";
-    let gate = Sixteen {
-        taken: AtomicU64::new(0),
-        late: AtomicBool::new(false),
-    };
-    is_run_under(rt, alloc, file, options(rt, 16, 64, 0), &gate)
-        && !gate.late.load(Ordering::SeqCst)
-        && gate.taken.load(Ordering::SeqCst) == 16
+    let gate = Sixteen::new(Point::Taken);
+    writes_under(rt, alloc, file, options, &gate, "base 0\n", "\nend\n") && gate.came_at_once()
 }
 
 #[test]
@@ -173,7 +161,7 @@ struct Spoils {
     ends: AtomicU64,
     commits: AtomicU64,
     over: AtomicU64,
-    late: AtomicBool,
+    late: AtomicU64,
 }
 
 impl Spoils {
@@ -182,57 +170,38 @@ impl Spoils {
         match (point, task.0) {
             (Point::Ended, 0) => {
                 let ends = self.ends.fetch_add(1, Ordering::SeqCst);
-                comes_to(&self.commits, ends.saturating_add(1))
+                return comes_to(&self.commits, ends.saturating_add(1));
             }
-            (Point::Taken, other) if other > 0 => comes_to(&self.ends, u64::from(other)),
-            (Point::Finished, other) if other > 0 => {
-                self.commits.fetch_add(1, Ordering::SeqCst);
-                true
-            }
-            (Point::Finished, _) => {
-                self.over.fetch_add(1, Ordering::SeqCst);
-                true
-            }
-            _ => true,
-        }
+            (Point::Taken, other) if other > 0 => return comes_to(&self.ends, u64::from(other)),
+            (Point::Finished, 0) => self.over.fetch_add(1, Ordering::SeqCst),
+            (Point::Finished, _) => self.commits.fetch_add(1, Ordering::SeqCst),
+            _ => 0,
+        };
+        true
     }
 }
 
 impl Gate for Spoils {
     fn at(&self, point: Point, task: TaskId) {
         if !self.wait(point, task) {
-            self.late.store(true, Ordering::SeqCst);
+            self.late.store(1, Ordering::SeqCst);
         }
-    }
-}
-
-/// Whether a run of the file under this gate writes this report.
-fn is_reported<G: Gate>(
-    rt: &(impl Threads + Wait + Sync),
-    alloc: Global,
-    file: &str,
-    options: Options,
-    gate: &G,
-    report: &str,
-) -> bool {
-    match run_under(rt, alloc, file, options, gate) {
-        Some(text) => text.as_slice() == report.as_bytes(),
-        None => false,
     }
 }
 
 /// Whether the first task has 64 tries, and is over once.
 fn is_served_at_last(rt: &(impl Abort + Threads + Wait + Sync), alloc: Global) -> bool {
+    let options = options(rt, 2, 64, 65);
     let file = "(var x 5)(tx inc (set x (add x 1)) x)(run inc 65)";
     let report = "base 65\nx 70 65\nnow 65\nx 70 65\nend\n";
     let gate = Spoils {
         ends: AtomicU64::new(0),
         commits: AtomicU64::new(0),
         over: AtomicU64::new(0),
-        late: AtomicBool::new(false),
+        late: AtomicU64::new(0),
     };
-    is_reported(rt, alloc, file, options(rt, 2, 64, 65), &gate, report)
-        && !gate.late.load(Ordering::SeqCst)
+    writes_under(rt, alloc, file, options, &gate, report, report)
+        && gate.late.load(Ordering::SeqCst) == 0
         && gate.ends.load(Ordering::SeqCst) == 64
         && gate.over.load(Ordering::SeqCst) == 1
 }

@@ -53,18 +53,9 @@ fn is_one_call(alloc: Global, kind: ErrorKind, bytes: &[u8]) -> bool {
     put == Err(SinkFault) && told == (1, false) && once.calls == 1 && once.taken.is_empty()
 }
 
-#[test]
-fn a_write_or_flush_that_fails_is_not_tried_again(rt: HostRuntime) {
-    for kind in [ErrorKind::Other, ErrorKind::Interrupted] {
-        for bytes in [b"text".as_slice(), b""] {
-            assert!(rt; is_one_call(rt.alloc(), kind, bytes));
-        }
-    }
-}
-
 /// Whether of two puts of the text the first fails alone, and the second alone is written.
-fn is_put_once(alloc: Global) -> bool {
-    let mut out = Out::new(Once::new(alloc, ErrorKind::Interrupted));
+fn is_put_once(alloc: Global, kind: ErrorKind) -> bool {
+    let mut out = Out::new(Once::new(alloc, kind));
     let first = out.put(b"text");
     let second = out.put(b"text");
     let failures = out.failures();
@@ -75,8 +66,14 @@ fn is_put_once(alloc: Global) -> bool {
 }
 
 #[test]
-fn a_put_is_one_write(rt: HostRuntime) {
-    assert!(rt; is_put_once(rt.alloc()));
+fn a_write_or_flush_that_fails_is_not_tried_again(rt: HostRuntime) {
+    for kind in [ErrorKind::Other, ErrorKind::Interrupted] {
+        assert!(rt;
+            is_one_call(rt.alloc(), kind, b"text")
+                && is_one_call(rt.alloc(), kind, b"")
+                && is_put_once(rt.alloc(), kind)
+        );
+    }
 }
 
 /// A writer that takes one byte a call, until it has no room left.
@@ -110,12 +107,6 @@ fn are_put_so(room: usize, put: Result<(), SinkFault>, calls: u32, failures: u64
     found == put && short.calls == calls && failed == failures
 }
 
-#[test]
-fn what_was_taken_is_not_written_again(rt: HostRuntime) {
-    assert!(rt; are_put_so(4, Ok(()), 4, 0));
-    assert!(rt; are_put_so(3, Err(SinkFault), 4, 1));
-}
-
 /// Whether a text of four bytes where there is room for this many is put so.
 fn is_text_put(room: usize, put: Result<(), RunFault>) -> bool {
     let mut out = Out::new(Short { room, calls: 0 });
@@ -124,7 +115,7 @@ fn is_text_put(room: usize, put: Result<(), RunFault>) -> bool {
 }
 
 #[test]
-fn a_text_that_is_not_put_whole_is_a_failed_output(rt: HostRuntime) {
-    assert!(rt; is_text_put(4, Ok(())));
-    assert!(rt; is_text_put(3, Err(RunFault::Output)));
+fn what_was_taken_is_not_written_again(rt: HostRuntime) {
+    assert!(rt; are_put_so(4, Ok(()), 4, 0) && are_put_so(3, Err(SinkFault), 4, 1));
+    assert!(rt; is_text_put(4, Ok(())) && is_text_put(3, Err(RunFault::Output)));
 }
