@@ -1,16 +1,14 @@
-//! Tests of hostile use: each request for memory refused in turn, writers that fail at each call, and the limits with
-//! ample memory, where nothing answers that memory ran out, since none was refused.
+//! Tests of hostile use: each request for memory refused in turn, writers that fail at each call, and, with ample
+//! memory, what is at its limit and no file or schedule of `cases/limits.cases` can say.
 //!
 //! A test of a `refused` module holds with ample memory, and also where any one request for memory is
 //! refused: `hostile/all` runs each of them so, for each request that it makes.
 #![tactic(auto)]
 
 #[cfg(test)]
-mod limit_files;
+mod counts;
 #[cfg(test)]
 mod limit_observers;
-#[cfg(test)]
-mod limit_parts;
 #[cfg(test)]
 mod limit_schedules;
 #[cfg(test)]

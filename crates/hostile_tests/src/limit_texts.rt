@@ -2,14 +2,8 @@
 
 use std::alloc::{AllocError, Global};
 
-/// A part of a text: it stands once for each number from the first on, so many times, with the number
-/// between each two of its words.
-#[derive(Clone, Copy)]
-pub(crate) struct Part<'a> {
-    pub(crate) first: u32,
-    pub(crate) times: u32,
-    pub(crate) words: &'a [&'a str],
-}
+/// A part of a text: how often it stands there, and its words, with a number from 0 on between each two.
+pub(crate) type Part<'a> = (u32, &'a [&'a str]);
 
 /// The words with this number between each two.
 fn push_numbered(text: &mut String, number: &str, words: &[&str]) -> Result<(), AllocError> {
@@ -22,18 +16,17 @@ fn push_numbered(text: &mut String, number: &str, words: &[&str]) -> Result<(), 
     Ok(())
 }
 
-fn push_part(text: &mut String, alloc: Global, part: &Part) -> Result<(), AllocError> {
-    for i in 0..part.times {
-        let number = part.first.saturating_add(i);
-        push_numbered(text, format!(in alloc; "{number}")?.as_str(), part.words)?;
+fn push_part(text: &mut String, alloc: Global, part: Part<'_>) -> Result<(), AllocError> {
+    for i in 0..part.0 {
+        push_numbered(text, format!(in alloc; "{i}")?.as_str(), part.1)?;
     }
     Ok(())
 }
 
 /// The parts, one after the other.
-pub(crate) fn text_of(alloc: Global, parts: &[Part]) -> Result<String, AllocError> {
+pub(crate) fn text_of(alloc: Global, parts: &[Part<'_>]) -> Result<String, AllocError> {
     let mut text = String::new(alloc);
-    for part in parts {
+    for &part in parts {
         push_part(&mut text, alloc, part)?;
     }
     Ok(text)

@@ -1,55 +1,46 @@
 //! A worker under a gate, which tells its attempt one need after the other.
 
+use crate::counts::Counts;
 use crate::limit_observers::READS_ALL;
-use crate::limit_parts::lines_of;
 use crate::limit_texts::text_of;
-use runner::{Gate, Options, Out, Point, run_bytes};
+use runner::{Options, Out, run_bytes};
 use std::alloc::Global;
-use std::process::Abort;
 use std::sync::Wait;
-use std::sync::atomic::{AtomicU64, Ordering};
 use std::thread::Threads;
-use txn::TaskId;
 
-/// How often an attempt needed a variable.
-#[derive(Drop)]
-struct Needs {
-    count: AtomicU64,
-}
-
-impl Gate for Needs {
-    fn at(&self, point: Point, _task: TaskId) {
-        if point == Point::Needs {
-            self.count.fetch_add(1, Ordering::SeqCst);
-        }
+/// How many lines the report has, and whether one of them tells that memory ran out.
+fn lines_of(report: &[u8]) -> (usize, bool) {
+    let mut lines = 0usize;
+    let mut wants = false;
+    for line in report.split(|byte| *byte == b'\n') {
+        lines = lines.saturating_add(1);
+        wants = wants || line.starts_with(b"memory ");
     }
+    (lines, wants)
 }
 
-/// One worker runs the file, to a report of so many lines, and is told of so many needs.
-fn reads(
-    rt: &(impl Abort + Threads + Wait + Sync),
-    alloc: Global,
-    file: &str,
-    lines: usize,
-    needs: u64,
-) {
+/// Whether one worker runs the file, to a report of 517 lines, and is told of 256 needs.
+fn reads(rt: &(impl Threads + Wait + Sync), alloc: Global, file: &str) -> bool {
     let Some(options) = Options::new(1, 1, 0) else {
-        panic!(rt; "options")
+        return false;
     };
-    let gate = Needs {
-        count: AtomicU64::new(0),
-    };
+    let gate = Counts::new();
     let mut out = Out::new(Vec::new(alloc));
     let ran = run_bytes(rt, alloc, file.as_bytes(), options, &gate, &mut out);
-    assert!(rt; ran.is_ok());
-    assert!(rt; lines_of(out.into_inner().as_slice()) == (lines, false));
-    assert_eq!(rt; gate.count.load(Ordering::SeqCst), needs);
+    lines_of(out.into_inner().as_slice()) == (517, false)
+        && ran.is_ok()
+        && gate.are(Some(256), 1, 1)
+}
+
+/// Whether so it does that of all variables.
+fn reads_all(rt: &(impl Threads + Wait + Sync), alloc: Global) -> bool {
+    match text_of(alloc, READS_ALL) {
+        Ok(file) => reads(rt, alloc, file.as_str()),
+        Err(_) => false,
+    }
 }
 
 #[test]
 fn a_worker_under_a_gate_reads_all_variables(rt: HostRuntime) {
-    match text_of(rt.alloc(), READS_ALL) {
-        Ok(file) => reads(&rt, rt.alloc(), file.as_str(), 517, 256),
-        Err(_) => panic!(rt; "no text"),
-    }
+    assert!(rt; reads_all(&rt, rt.alloc()));
 }

@@ -1,11 +1,9 @@
 //! What is done with the catalogues of the tests, where memory may be refused.
 
-use crate::parts::{FAR, MANY};
 use crate::refused_attempt::drives;
 use crate::refused_book::{Script, over};
 use crate::refused_world::opens;
 use std::alloc::Global;
-use std::process::Abort;
 use txn::Catalogue;
 use txn_text::{ReadFault, read_file};
 
@@ -22,42 +20,34 @@ pub(crate) enum Use {
     OpensWorlds,
 }
 
-fn is_used(rt: &impl Abort, alloc: Global, catalogue: &Catalogue, how: Use) -> bool {
+/// Whether one of two opened at least, and all is right with what opened.
+fn one_opens(first: Option<bool>, second: Option<bool>) -> bool {
+    match (first, second) {
+        (Some(one), Some(other)) => one && other,
+        (Some(one), None) | (None, Some(one)) => one,
+        (None, None) => false,
+    }
+}
+
+fn is_used(alloc: Global, catalogue: &Catalogue, how: Use) -> bool {
     match how {
-        Use::Attempt => {
-            drives(rt, alloc, catalogue);
-            true
-        }
+        Use::Attempt => drives(alloc, catalogue),
         Use::OpensBooks => {
-            let first = over(rt, alloc, catalogue, Script::Takes);
-            let second = over(rt, alloc, catalogue, Script::Takes);
-            first || second
+            let first = over(alloc, catalogue, Script::Takes);
+            one_opens(first, over(alloc, catalogue, Script::Takes))
         }
-        Use::Book(script) => {
-            let _opened = over(rt, alloc, catalogue, script);
-            true
-        }
+        Use::Book(script) => over(alloc, catalogue, script) != Some(false),
         Use::OpensWorlds => {
-            let first = opens(rt, alloc, catalogue);
-            let second = opens(rt, alloc, catalogue);
-            first || second
+            let first = opens(alloc, catalogue);
+            one_opens(first, opens(alloc, catalogue))
         }
     }
 }
 
-/// The catalogue of `MANY` is used so, where memory for it is not refused.
-pub(crate) fn on_many(rt: &impl Abort, alloc: Global, how: Use) {
-    on(rt, alloc, MANY, how);
-}
-
-/// That of `FAR` is.
-pub(crate) fn on_far(rt: &impl Abort, alloc: Global, how: Use) {
-    on(rt, alloc, FAR, how);
-}
-
-fn on(rt: &impl Abort, alloc: Global, text: &str, how: Use) {
+/// Whether all is right where the catalogue of this text is used so, where memory for it is not refused.
+pub(crate) fn is_right_on(alloc: Global, text: &str, how: Use) -> bool {
     match read_file(alloc, text.as_bytes()) {
-        Ok(catalogue) => assert!(rt; is_used(rt, alloc, &catalogue, how)),
-        Err(fault) => assert!(rt; fault == ReadFault::Memory),
+        Ok(catalogue) => is_used(alloc, &catalogue, how),
+        Err(fault) => fault == ReadFault::Memory,
     }
 }

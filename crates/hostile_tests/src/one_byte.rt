@@ -15,7 +15,6 @@ pub(crate) enum Trouble {
 /// At which call the trouble comes.
 #[derive(Clone, Copy, PartialEq, Eq)]
 pub(crate) enum Place {
-    Nowhere,
     /// At this write, counted from 1.
     Write(usize),
     Flush,

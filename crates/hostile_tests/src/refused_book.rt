@@ -1,15 +1,12 @@
 //! What a refused opening, attempt, turn and report leave of a book.
 
-ghost use Rattle.std.specs.Prelude.{◌<◌, length};
-
-use crate::on_many::{Use, on_far, on_many};
-use crate::parts::A;
+use crate::on_many::{Use, is_right_on};
+use crate::parts::{A, FAR, MANY};
 use crate::uses::{entries_after_report, given_up_twice};
 use attempt::{Attempt, Next};
 use book::{Book, NotPlain, Serial};
 use cells::Cells;
 use std::alloc::Global;
-use std::process::Abort;
 use txn::{Catalogue, Report, TxId};
 
 /// What is done with a book that was just opened.
@@ -22,52 +19,34 @@ pub(crate) enum Script {
     Reports,
 }
 
-/// Opens a book of the catalogue, and follows the script. Whether it was opened.
-pub(crate) fn over(rt: &impl Abort, alloc: Global, catalogue: &Catalogue, script: Script) -> bool {
-    let Ok((cells, publisher, _)) = Cells::open(alloc, catalogue.initial(), 0) else {
-        return false;
-    };
+/// Opens a book of the catalogue, and follows the script: whether all is right, `None` where it is not opened.
+pub(crate) fn over(alloc: Global, catalogue: &Catalogue, script: Script) -> Option<bool> {
+    let (cells, publisher, passes) = Cells::open(alloc, catalogue.initial(), 0).ok()?;
+    drop(passes);
     match Book::open(alloc, catalogue, &cells, publisher) {
-        Ok(mut book) => follow(rt, alloc, &mut book, catalogue, script),
-        Err(_) => return false,
+        Ok(mut book) => Some(is_followed(alloc, &mut book, catalogue, script)),
+        Err(_) => None,
     }
-    true
 }
 
-fn follow(
-    rt: &impl Abort,
+fn is_followed(
     alloc: Global,
     book: &mut Book<'_>,
     catalogue: &Catalogue,
     script: Script,
-) {
+) -> bool {
     match script {
-        Script::Takes => assert_eq!(rt; book.take(), Some(A)),
-        Script::GivesUp => gives_up(rt, alloc, book, catalogue),
-        Script::Serves => serves(rt, alloc, book, catalogue),
-        Script::ServesPlainly => serves_plainly(rt, book, catalogue),
-        Script::Reports => reports(rt, alloc, book),
+        Script::Takes => book.take() == Some(A),
+        Script::GivesUp => gives_up(alloc, book, catalogue),
+        Script::Serves => serves(alloc, book, catalogue),
+        Script::ServesPlainly => serves_plainly(book, catalogue),
+        Script::Reports => reports(alloc, book),
     }
 }
 
-/// Stops the test where the book is not of the catalogue or has no task 0.
-fn exists(rt: &impl Abort, book: &Book<'_>, catalogue: &Catalogue)
-    ensures { 0 < length book.now.tasks }
-{
-    assert!(rt; book.is_for(catalogue));
-    assert!(rt; book.tasks() > 0);
-}
-
-/// Whether memory is refused to an attempt of task 0.
-fn is_refused(rt: &impl Abort, alloc: Global, catalogue: &Catalogue) -> bool {
-    assert!(rt; catalogue.tasks() > 0);
-    let mut attempt = Attempt::new(
-        alloc,
-        catalogue,
-        catalogue.task_tx(A),
-        catalogue.task_arguments(A),
-    );
-    'needs: for _variable in 0..u8::MAX {
+/// Whether memory is refused to the attempt.
+fn is_refused(attempt: &mut Attempt<'_>) -> bool {
+    for _variable in 0..u8::MAX {
         match attempt.advance() {
             Next::Need(x) => {
                 if attempt.supply(x, 6).is_err() {
@@ -80,31 +59,42 @@ fn is_refused(rt: &impl Abort, alloc: Global, catalogue: &Catalogue) -> bool {
     false
 }
 
-/// Where an attempt is refused memory its task is given up, once.
-fn gives_up(rt: &impl Abort, alloc: Global, book: &mut Book<'_>, catalogue: &Catalogue) {
-    if is_refused(rt, alloc, catalogue) {
-        assert!(rt; given_up_twice(book) == Some((true, false)));
-        match book.report(alloc) {
-            Ok(report) => assert!(rt; tells_given_up(&report)),
-            Err(_) => panic!(rt; "refused twice"),
-        }
+/// Where an attempt of task 0 is refused memory its task is given up, once.
+fn gives_up(alloc: Global, book: &mut Book<'_>, catalogue: &Catalogue) -> bool {
+    if catalogue.tasks() == 0 {
+        return false;
+    }
+    let tx = catalogue.task_tx(A);
+    let mut attempt = Attempt::new(alloc, catalogue, tx, catalogue.task_arguments(A));
+    let is_refused = is_refused(&mut attempt);
+    drop(attempt);
+    !is_refused || given_up_twice(book) == Some((true, false)) && reports_given_up(alloc, book)
+}
+
+/// Whether the book reports task 0 given up, and no entry.
+fn reports_given_up(alloc: Global, book: &Book<'_>) -> bool {
+    match book.report(alloc) {
+        Ok(report) => tells_given_up(&report),
+        Err(_) => false,
     }
 }
 
-/// Whether the report has task 0 given up, and no entry.
 fn tells_given_up(report: &Report) -> bool {
     report.entries.is_empty() && report.memory.as_slice() == [(A, TxId(0))].as_slice()
 }
 
 /// A turn that is refused memory gives its task up, and changes nothing else.
-fn serves(rt: &impl Abort, alloc: Global, book: &mut Book<'_>, catalogue: &Catalogue) {
-    assert!(rt; book.take() == Some(A));
-    exists(rt, book, catalogue);
+fn serves(alloc: Global, book: &mut Book<'_>, catalogue: &Catalogue) -> bool {
+    if book.take() != Some(A) || !book.is_for(catalogue) || book.tasks() == 0 {
+        return false;
+    }
     let how = book.serial(alloc, A);
-    assert!(rt; how == Serial::Committed(1) || how == Serial::Abandoned);
-    assert!(rt; (book.journal_len() == 0) == (how == Serial::Abandoned));
-    exists(rt, book, catalogue);
-    assert!(rt; !book.give_up(A));
+    let is_given_up = how == Serial::Abandoned;
+    (is_given_up || how == Serial::Committed(1))
+        && (book.journal_len() == 0) == is_given_up
+        && book.is_for(catalogue)
+        && book.tasks() > 0
+        && !book.give_up(A)
 }
 
 /// Whether these are the values of `FAR` at first.
@@ -119,57 +109,66 @@ fn is_at_first(values: &[i64]) -> bool {
 
 /// A plain turn that is refused memory changes nothing, and the second one commits, since one request is refused at
 /// most.
-fn serves_plainly(rt: &impl Abort, book: &mut Book<'_>, catalogue: &Catalogue) {
-    assert!(rt; book.take() == Some(A));
-    exists(rt, book, catalogue);
-    let first = book.turn_plainly(A);
-    if first.is_err() {
-        assert!(rt; first == Err(NotPlain::Memory));
-        assert_eq!(rt; book.journal_len(), 0);
-        assert!(rt; is_at_first(book.values()));
-        exists(rt, book, catalogue);
-        assert!(rt; book.turn_plainly(A).is_ok());
+fn serves_plainly(book: &mut Book<'_>, catalogue: &Catalogue) -> bool {
+    if book.take() != Some(A) || !book.is_for(catalogue) || book.tasks() == 0 {
+        return false;
     }
-    assert_eq!(rt; book.journal_len(), 1);
+    let is_served = match book.turn_plainly(A) {
+        Ok(_) => true,
+        Err(why) => {
+            why == NotPlain::Memory
+                && book.journal_len() == 0
+                && is_at_first(book.values())
+                && book.is_for(catalogue)
+                && book.tasks() > 0
+                && book.turn_plainly(A).is_ok()
+        }
+    };
+    is_served && book.journal_len() == 1
 }
 
 /// Of two reports one is refused at most, and the journal stays.
-fn reports(rt: &impl Abort, alloc: Global, book: &mut Book<'_>) {
+fn reports(alloc: Global, book: &mut Book<'_>) -> bool {
     book.drain(alloc, 0);
     let entries = book.journal_len();
     let (first, left) = entries_after_report(alloc, book);
-    assert_eq!(rt; left, entries);
-    let (second, left) = entries_after_report(alloc, book);
-    assert_eq!(rt; left, entries);
-    assert!(rt; !first || !second);
+    let (second, still_left) = entries_after_report(alloc, book);
+    left == entries && still_left == entries && !(first && second)
 }
 
-#[test]
-fn after_a_refused_opening_a_book_opens(rt: HostRuntime) {
-    on_many(&rt, rt.alloc(), Use::OpensBooks);
-}
+/// What is so, the text of a catalogue, and what is done with it.
+const USES: &[(&str, &str, Use)] = &[
+    ("after a refused opening a book opens", MANY, Use::OpensBooks),
+    (
+        "a task without memory is given up once",
+        MANY,
+        Use::Book(Script::GivesUp),
+    ),
+    (
+        "a turn without memory gives its task up",
+        MANY,
+        Use::Book(Script::Serves),
+    ),
+    (
+        "a turn on far cells without memory gives its task up",
+        FAR,
+        Use::Book(Script::Serves),
+    ),
+    (
+        "a plain turn without memory changes nothing",
+        FAR,
+        Use::Book(Script::ServesPlainly),
+    ),
+    (
+        "a refused report leaves the journal",
+        MANY,
+        Use::Book(Script::Reports),
+    ),
+];
 
 #[test]
-fn a_task_without_memory_is_given_up_once(rt: HostRuntime) {
-    on_many(&rt, rt.alloc(), Use::Book(Script::GivesUp));
-}
-
-#[test]
-fn a_turn_without_memory_gives_its_task_up(rt: HostRuntime) {
-    on_many(&rt, rt.alloc(), Use::Book(Script::Serves));
-}
-
-#[test]
-fn a_turn_on_far_cells_without_memory_gives_its_task_up(rt: HostRuntime) {
-    on_far(&rt, rt.alloc(), Use::Book(Script::Serves));
-}
-
-#[test]
-fn a_plain_turn_without_memory_changes_nothing(rt: HostRuntime) {
-    on_far(&rt, rt.alloc(), Use::Book(Script::ServesPlainly));
-}
-
-#[test]
-fn a_refused_report_leaves_the_journal(rt: HostRuntime) {
-    on_many(&rt, rt.alloc(), Use::Book(Script::Reports));
+fn a_refusal_leaves_the_book_as_it_has_to(rt: HostRuntime) {
+    for &(what, text, how) in USES {
+        assert!(rt; is_right_on(rt.alloc(), text, how), "{what}");
+    }
 }

@@ -1,9 +1,9 @@
 //! From bytes to bytes where memory is refused on the way: nothing is written, or what has to be.
 
+use crate::counts::written;
 use checker::{Verdict, check};
-use runner::{OpenGate, Options, Out, RunFault, run_bytes};
+use runner::{OpenGate, Out, RunFault};
 use std::alloc::Global;
-use std::process::Abort;
 use std::sync::Wait;
 use std::thread::Threads;
 use txn_text::ReadFault;
@@ -38,53 +38,32 @@ const SEEN: &str =
     9 stored\n10 stored\n11 needs x\n12 needs y\n13 stale\n14 committed 1\nnow 1\nx 2 1\ny 2 1\n\
     attempt 1 0 committed 1\nattempt 0 0 stale\nattempt 0 1 stale x 2\nend\n";
 
-/// The verdict on a report of a file, `None` where memory is refused.
-fn verdict(rt: &impl Abort, alloc: Global, file: &str, report: &[u8]) -> Option<Verdict> {
+/// Whether the report of the file is good for part 0, or else bad by this part, or memory is refused.
+fn is_judged(alloc: Global, file: &str, part: u8, report: &[u8]) -> bool {
     match check(alloc, file.as_bytes(), report) {
-        Ok(verdict) => Some(verdict),
-        Err(fault) => {
-            assert!(rt; fault == ReadFault::Memory);
-            None
-        }
+        Ok(Verdict::Good) => part == 0,
+        Ok(Verdict::Bad(found)) => found.number() == part,
+        Err(fault) => fault == ReadFault::Memory,
     }
 }
 
-/// Runs the file by one worker. Why it has no report, and how many bytes were written.
-fn run(
-    rt: &(impl Threads + Wait + Sync),
-    alloc: Global,
-    file: &str,
-    options: Options,
-    room: &mut [u8],
-) -> (Option<RunFault>, usize) {
-    let whole = room.len();
-    let mut out = Out::new(room);
-    let ran = run_bytes(rt, alloc, file.as_bytes(), options, &OpenGate, &mut out);
-    (ran.err(), whole.saturating_sub(out.into_inner().len()))
-}
-
-/// Plays the schedule. Why nothing is shown, and how many bytes were written.
-fn play(alloc: Global, room: &mut [u8]) -> (Option<RunFault>, usize) {
-    let whole = room.len();
-    let mut out = Out::new(room);
-    let played = world_bytes(alloc, PAIR.as_bytes(), SCHEDULE.as_bytes(), &mut out);
-    (played.err(), whole.saturating_sub(out.into_inner().len()))
-}
-
-/// Of a run that is refused memory nothing is written, and of any other a good report.
-fn expect_good(rt: &(impl Threads + Wait + Sync + Abort), alloc: Global, file: &str) {
-    let Some(options) = Options::new(1, 8, 0) else {
-        panic!(rt; "options");
-    };
+/// Whether of a run of the file that is refused memory nothing is written, and of any other a good report.
+fn is_good(rt: &(impl Threads + Wait + Sync), alloc: Global, file: &str) -> bool {
     let mut room = [0u8; SINK_ROOM];
-    let (fault, count) = run(rt, alloc, file, options, room.as_mut_slice());
-    assert!(rt; count < SINK_ROOM);
-    match fault {
-        Some(fault) => assert!(rt; fault == RunFault::Memory && count == 0),
-        None => {
-            let judged = verdict(rt, alloc, file, &room[..count]);
-            assert!(rt; judged == Some(Verdict::Good) || judged.is_none());
-        }
+    match written(rt, alloc, file, 8, &OpenGate, room.as_mut_slice()) {
+        Some(0) => true,
+        Some(count) => match room.get(..count) {
+            Some(report) => is_judged(alloc, file, 0, report),
+            None => false,
+        },
+        None => false,
+    }
+}
+
+#[test]
+fn a_run_writes_nothing_or_a_good_report(rt: HostRuntime) {
+    for file in [INCREMENTS, RETRY, BUFFER, MOVES, DIVISION] {
+        assert!(rt; is_good(&rt, rt.alloc(), file), "of {file}");
     }
 }
 
@@ -100,24 +79,6 @@ fn is_seen(lines: &[u8]) -> bool {
         }
     }
     wanted.next().is_none()
-}
-
-#[test]
-fn a_run_writes_nothing_or_a_good_report(rt: HostRuntime) {
-    expect_good(&rt, rt.alloc(), INCREMENTS);
-    expect_good(&rt, rt.alloc(), RETRY);
-    expect_good(&rt, rt.alloc(), BUFFER);
-    expect_good(&rt, rt.alloc(), MOVES);
-    expect_good(&rt, rt.alloc(), DIVISION);
-}
-
-/// The check of a report of a file: good for part 0, bad by this part, or refused memory.
-fn expect_verdict(rt: &impl Abort, alloc: Global, file: &str, part: u8, report: &str) {
-    match verdict(rt, alloc, file, report.as_bytes()) {
-        Some(Verdict::Good) => assert!(rt; part == 0),
-        Some(Verdict::Bad(found)) => assert!(rt; found.number() == part),
-        None => {}
-    }
 }
 
 /// Reports of two increments, each with the part that it fails first, and 0 where it is lawful.
@@ -171,21 +132,35 @@ const CONDITIONS: &[(u8, &str)] = &[
 
 #[test]
 fn a_check_has_its_verdict_or_none(rt: HostRuntime) {
-    for (part, report) in VERDICTS {
-        expect_verdict(&rt, rt.alloc(), INCREMENTS, *part, report);
+    for (file, reports) in [(INCREMENTS, VERDICTS), (DIVISION, CONDITIONS)] {
+        for &(part, report) in reports {
+            assert!(rt; is_judged(rt.alloc(), file, part, report.as_bytes()), "of {report}");
+        }
     }
-    for (part, report) in CONDITIONS {
-        expect_verdict(&rt, rt.alloc(), DIVISION, *part, report);
+}
+
+/// Plays the schedule. Why nothing is shown, and how many bytes were written.
+fn play(alloc: Global, room: &mut [u8]) -> (Option<RunFault>, usize) {
+    let size = room.len();
+    let mut out = Out::new(room);
+    let played = world_bytes(alloc, PAIR.as_bytes(), SCHEDULE.as_bytes(), &mut out);
+    (played.err(), size.saturating_sub(out.into_inner().len()))
+}
+
+/// Whether of a schedule that is refused memory nothing is written, and of any other what is seen.
+fn shows_what_is_seen(alloc: Global) -> bool {
+    let mut room = [0u8; SINK_ROOM];
+    let (fault, count) = play(alloc, room.as_mut_slice());
+    match fault {
+        Some(fault) => fault == RunFault::Memory && count == 0,
+        None => match room.get(..count) {
+            Some(lines) => is_seen(lines),
+            None => false,
+        },
     }
 }
 
 #[test]
 fn a_schedule_shows_nothing_or_what_is_seen(rt: HostRuntime) {
-    let mut room = [0u8; SINK_ROOM];
-    let (fault, count) = play(rt.alloc(), room.as_mut_slice());
-    assert!(rt; count < SINK_ROOM);
-    match fault {
-        Some(fault) => assert!(rt; fault == RunFault::Memory && count == 0),
-        None => assert!(rt; is_seen(&room[..count])),
-    }
+    assert!(rt; shows_what_is_seen(rt.alloc()));
 }

@@ -31,11 +31,20 @@ fn grows(numbers: &mut NumberIndex, count: u32) -> bool {
     }
 }
 
+/// Whether it is so for each of 120 numbers.
+fn keeps_all(numbers: &mut NumberIndex) -> bool {
+    for count in 0..120 {
+        if !grows(numbers, count) {
+            return false;
+        }
+    }
+    has_all(numbers, 120)
+}
+
 #[test]
 fn a_list_keeps_its_numbers(rt: HostRuntime) {
     let mut numbers = NumberIndex::new(rt.alloc());
-    for count in 0..120 {
-        assert!(&rt; grows(&mut numbers, count));
-    }
-    assert!(&rt; has_all(&numbers, 120));
+    let keeps = keeps_all(&mut numbers);
+    drop(numbers);
+    assert!(&rt; keeps);
 }

@@ -1,13 +1,11 @@
 //! A task whose attempt is refused memory, by a worker under a gate: it is given up, and then over. And tasks whose
 //! transactions take no memory, which are never given up.
 
-use runner::{Gate, OpenGate, Options, Out, Point, RunFault, run_bytes};
+use crate::counts::{Counts, written};
+use runner::{Gate, OpenGate};
 use std::alloc::Global;
-use std::process::Abort;
 use std::sync::Wait;
-use std::sync::atomic::{AtomicU64, Ordering};
 use std::thread::Threads;
-use txn::TaskId;
 
 /// A task that takes memory, in its first branch.
 const BRANCH: &str =
@@ -21,81 +19,59 @@ const EIGHT: &str =
 /// The end of their report: all three have committed.
 const EIGHT_END: &[u8] = b"\nnow 3\na 17 3\nb 2 0\nc 3 0\nd 4 0\ne 5 0\nf 6 0\ng 7 0\nh 8 0\nend\n";
 
-/// More than its report is long.
-const SINK_ROOM: usize = 256;
+/// How the report of the task ends that takes memory, where it has some, and where not.
+const DONE: &[u8] = b"\nnow 1\nx 7 1\nend\n";
 
-/// How often an attempt ended, and how often a task was over.
-#[derive(Drop)]
-struct Counts {
-    ended: AtomicU64,
-    over: AtomicU64,
+const GIVEN_UP: &[u8] = b"\nmemory 0 t\nend\n";
+
+/// Whether the report of the run ends in the first or in the second of these ways, or there is none, as memory was
+/// refused to it; `None` where it is another one.
+fn end_of<G: Gate>(
+    rt: &(impl Threads + Wait + Sync),
+    alloc: Global,
+    file: &str,
+    gate: &G,
+    ends: [&[u8]; 2],
+) -> Option<u64> {
+    let mut room = [0u8; 256];
+    let count = written(rt, alloc, file, 1, gate, room.as_mut_slice())?;
+    let report = room.get(..count)?;
+    if report.is_empty() {
+        Some(0)
+    } else if report.ends_with(ends[0]) {
+        Some(1)
+    } else if report.ends_with(ends[1]) {
+        Some(2)
+    } else {
+        None
+    }
 }
 
-impl Gate for Counts {
-    fn at(&self, point: Point, _task: TaskId) {
-        match point {
-            Point::Ended => {
-                self.ended.fetch_add(1, Ordering::SeqCst);
-            }
-            Point::Finished => {
-                self.over.fetch_add(1, Ordering::SeqCst);
-            }
-            _ => {}
-        }
+/// Whether the task is given up where its attempt is refused memory, and has an end where not; then it is over.
+fn is_given_up(rt: &(impl Threads + Wait + Sync), alloc: Global) -> bool {
+    let gate = Counts::new();
+    match end_of(rt, alloc, BRANCH, &gate, [DONE, GIVEN_UP]) {
+        Some(0) => true,
+        Some(1) => gate.are(None, 1, 1),
+        Some(_) => gate.are(None, 0, 1),
+        None => false,
     }
 }
 
 #[test]
 fn a_task_is_given_up_where_its_attempt_is_refused(rt: HostRuntime) {
-    let Some(options) = Options::new(1, 1, 0) else {
-        panic!(rt; "options")
-    };
-    let gate = Counts {
-        ended: AtomicU64::new(0),
-        over: AtomicU64::new(0),
-    };
-    let mut room = [0u8; SINK_ROOM];
-    let mut out = Out::new(room.as_mut_slice());
-    let ran = run_bytes(&rt, rt.alloc(), BRANCH.as_bytes(), options, &gate, &mut out);
-    let left = out.into_inner().len();
-    match ran {
-        Err(fault) => assert!(rt; fault == RunFault::Memory && left == SINK_ROOM),
-        Ok(()) => {
-            assert!(rt; left <= SINK_ROOM);
-            let report = &room[..SINK_ROOM - left];
-            let is_given_up = report.ends_with(b"\nmemory 0 t\nend\n");
-            let ended = gate.ended.load(Ordering::SeqCst);
-            assert!(rt; is_given_up || report.ends_with(b"\nnow 1\nx 7 1\nend\n"));
-            assert_eq!(rt; ended, if is_given_up { 0 } else { 1 });
-            assert_eq!(rt; gate.over.load(Ordering::SeqCst), 1);
-        }
-    }
+    assert!(rt; is_given_up(&rt, rt.alloc()));
 }
 
-/// Runs the tasks that take no memory: each is in the report, or there is none.
-fn expect_all<G: Gate>(rt: &(impl Threads + Wait + Sync + Abort), alloc: Global, gate: &G) {
-    let Some(options) = Options::new(1, 1, 0) else {
-        panic!(rt; "options")
-    };
-    let mut room = [0u8; SINK_ROOM];
-    let mut out = Out::new(room.as_mut_slice());
-    let ran = run_bytes(rt, alloc, EIGHT.as_bytes(), options, gate, &mut out);
-    let left = out.into_inner().len();
-    match ran {
-        Err(fault) => assert!(rt; fault == RunFault::Memory && left == SINK_ROOM),
-        Ok(()) => {
-            assert!(rt; left <= SINK_ROOM);
-            assert!(rt; room[..SINK_ROOM - left].ends_with(EIGHT_END));
-        }
-    }
+/// Whether each of the tasks that take none is in the report, or there is none.
+fn all_are_done<G: Gate>(rt: &(impl Threads + Wait + Sync), alloc: Global, gate: &G) -> bool {
+    end_of(rt, alloc, EIGHT, gate, [EIGHT_END, EIGHT_END]).is_some()
 }
 
 #[test]
 fn none_is_given_up_where_no_transaction_takes_memory(rt: HostRuntime) {
-    let gate = Counts {
-        ended: AtomicU64::new(0),
-        over: AtomicU64::new(0),
-    };
-    expect_all(&rt, rt.alloc(), &gate);
-    expect_all(&rt, rt.alloc(), &OpenGate);
+    let gate = Counts::new();
+    let is_so = all_are_done(&rt, rt.alloc(), &gate);
+    drop(gate);
+    assert!(rt; is_so && all_are_done(&rt, rt.alloc(), &OpenGate));
 }

@@ -3,7 +3,6 @@
 use crate::one_byte::{OneByte, Place, Trouble};
 use runner::{OpenGate, Options, Out, RunFault, run_bytes};
 use std::alloc::Global;
-use std::process::Abort;
 use std::sync::Wait;
 use std::thread::Threads;
 use world_runner::world_bytes;
@@ -39,111 +38,60 @@ impl Text {
     }
 }
 
-/// Writes the text to the writer. The fault where it ends in one, the failed calls, and the writer.
-fn write(
-    rt: &(impl Threads + Wait + Sync + Abort),
+/// How a text ends: in a fault or in none, behind so many failed calls, so many writes and so many flushes.
+type End = (Option<RunFault>, u64, usize, usize);
+
+/// Whether with trouble at a place the text ends so, and exactly this beginning is out.
+fn ends_so(
+    rt: &(impl Threads + Wait + Sync),
     alloc: Global,
     text: Text,
     writer: OneByte,
-) -> (Option<RunFault>, u64, OneByte) {
-    let Some(options) = Options::new(1, 8, 0) else {
-        panic!(rt; "options");
-    };
+    end: End,
+    beginning: &[u8],
+) -> bool {
     let mut out = Out::new(writer);
     let file = BUFFER.as_bytes();
-    let written = match text {
-        Text::Report => run_bytes(rt, alloc, file, options, &OpenGate, &mut out),
-        Text::World => world_bytes(alloc, file, SCHEDULE.as_bytes(), &mut out),
+    let written = match (text, Options::new(1, 8, 0)) {
+        (Text::Report, Some(options)) => run_bytes(rt, alloc, file, options, &OpenGate, &mut out),
+        _ => world_bytes(alloc, file, SCHEDULE.as_bytes(), &mut out),
     };
     let failures = out.failures();
-    (written.err(), failures, out.into_inner())
-}
-
-/// Whether with trouble at a place the text ends so: exactly this beginning is out, by so many calls.
-fn ends_so(
-    rt: &(impl Threads + Wait + Sync + Abort),
-    alloc: Global,
-    text: Text,
-    place: Place,
-    trouble: Trouble,
-    beginning: &[u8],
-    calls: (usize, usize),
-) -> bool {
-    let writer = OneByte::new(alloc, place, trouble);
-    let (fault, failures, writer) = write(rt, alloc, text, writer);
-    fault == Some(RunFault::Output)
-        && failures == 1
-        && (writer.writes, writer.flushes) == calls
+    let writer = out.into_inner();
+    (written.err(), failures, writer.writes, writer.flushes) == end
         && writer.taken.as_slice() == beginning
 }
 
-/// Whether, one byte at a call, the whole text is out, by a write for each byte and one flush.
-fn is_whole(rt: &(impl Threads + Wait + Sync + Abort), alloc: Global, text: Text) -> bool {
-    let writer = OneByte::new(alloc, Place::Nowhere, Trouble::Fails);
-    let (fault, failures, writer) = write(rt, alloc, text, writer);
-    fault == None
-        && failures == 0
-        && (writer.writes, writer.flushes) == (text.whole().len(), 1)
-        && writer.taken.as_slice() == text.whole().as_bytes()
-}
-
-/// How many bytes are out before the first write at which trouble does not end the text as it has to.
-fn first_wrong_cut(
-    rt: &(impl Threads + Wait + Sync + Abort),
+/// Whether the text ends as it has to where trouble comes behind so many bytes: at a write, or at the flush behind all.
+/// A flush takes nothing anyway, so with that trouble the whole text is out.
+fn is_cut(
+    rt: &(impl Threads + Wait + Sync),
     alloc: Global,
     text: Text,
     trouble: Trouble,
-) -> Option<usize> {
-    let bytes = text.whole().as_bytes();
-    for taken in 0..bytes.len() {
-        let write = taken + 1;
-        let place = Place::Write(write);
-        let calls = (write, 0);
-        if !ends_so(rt, alloc, text, place, trouble, &bytes[..taken], calls) {
-            return Some(taken);
-        }
-    }
-    None
-}
-
-/// Whether trouble at the flush ends the text as it has to.
-fn is_cut_at_flush(
-    rt: &(impl Threads + Wait + Sync + Abort),
-    alloc: Global,
-    text: Text,
-    trouble: Trouble,
+    taken: usize,
 ) -> bool {
     let bytes = text.whole().as_bytes();
-    let calls = (bytes.len(), 1);
-    ends_so(rt, alloc, text, Place::Flush, trouble, bytes, calls)
-}
-
-/// No cut of the text is wrong, by this trouble.
-fn expect_cuts(
-    rt: &(impl Threads + Wait + Sync + Abort + Eprint),
-    alloc: Global,
-    text: Text,
-    trouble: Trouble,
-) {
-    assert_eq!(rt; first_wrong_cut(rt, alloc, text, trouble), None);
-}
-
-/// All of it, of one text.
-fn expect_all(rt: &(impl Threads + Wait + Sync + Abort + Eprint), alloc: Global, text: Text) {
-    assert!(rt; is_whole(rt, alloc, text));
-    expect_cuts(rt, alloc, text, Trouble::Fails);
-    expect_cuts(rt, alloc, text, Trouble::IsInterrupted);
-    expect_cuts(rt, alloc, text, Trouble::TakesNothing);
-    assert!(rt; is_cut_at_flush(rt, alloc, text, Trouble::Fails));
-    assert!(rt; is_cut_at_flush(rt, alloc, text, Trouble::IsInterrupted));
+    let Some(beginning) = bytes.get(..taken) else {
+        return false;
+    };
+    let next = taken.saturating_add(1);
+    let (place, end) = match trouble {
+        _ if taken < bytes.len() => (Place::Write(next), (Some(RunFault::Output), 1, next, 0)),
+        Trouble::TakesNothing => (Place::Flush, (None, 0, taken, 1)),
+        _ => (Place::Flush, (Some(RunFault::Output), 1, taken, 1)),
+    };
+    let writer = OneByte::new(alloc, place, trouble);
+    ends_so(rt, alloc, text, writer, end, beginning)
 }
 
 #[test]
-fn a_report_is_cut_where_a_writer_fails(rt: HostRuntime) {
-    expect_all(&rt, rt.alloc(), Text::Report);
-}
-
-#[test]
-fn a_text_of_a_world_is_cut_where_a_writer_fails(rt: HostRuntime) {
-    expect_all(&rt, rt.alloc(), Text::World);
+fn a_text_is_cut_where_a_writer_fails(rt: HostRuntime) {
+    for text in [Text::Report, Text::World] {
+        for trouble in [Trouble::Fails, Trouble::IsInterrupted, Trouble::TakesNothing] {
+            for taken in 0..=text.whole().len() {
+                assert!(rt; is_cut(&rt, rt.alloc(), text, trouble, taken), "behind {taken}");
+            }
+        }
+    }
 }
