@@ -1,5 +1,6 @@
 //! A runtime of which a test says everything: the words, the one file, and what becomes of output.
 
+use crate::program::{EMPTY, NEXT, REPORT, SCHEDULE};
 use std::alloc::{Allocator, Global};
 use std::cell::{Cell, RefCell};
 use std::env::FillError;
@@ -25,37 +26,36 @@ pub(crate) enum Prints {
     Interrupted,
 }
 
-/// A process with the files `a.stm`, `a.report` and `a.schedule`, and the earlier ones `o.stm` and `o.report`.
+/// A process with the file `a.stm`, and those of `program`: `a.report` and `a.schedule`, and the earlier ones `o.stm`
+/// and `o.report`.
 #[derive(Drop)]
 pub(crate) struct Host<'a> {
-    pub(crate) alloc: Global,
-    pub(crate) words: &'a [&'a [u8]],
-    pub(crate) file: &'a [u8],
-    pub(crate) report: &'a [u8],
-    pub(crate) schedule: &'a [u8],
-    pub(crate) earlier: (&'a [u8], &'a [u8]),
-    pub(crate) reads: Reads,
-    pub(crate) prints: Prints,
+    alloc: Global,
+    words: &'a [&'a [u8]],
+    file: &'a [u8],
+    reads: Reads,
+    prints: Prints,
     /// How many writes the standard output got.
     pub(crate) writes: Cell<u32>,
     /// The bytes of the last write that it took.
-    pub(crate) printed: RefCell<Vec<u8>>,
+    printed: RefCell<Vec<u8>>,
     /// What the standard error got last.
-    pub(crate) said: RefCell<String>,
+    said: RefCell<String>,
 }
 
 impl<'a> Host<'a> {
-    /// Where everything goes well.
-    pub(crate) fn new(alloc: Global, words: &'a [&'a [u8]], file: &'a [u8]) -> Host<'a> {
+    pub(crate) fn new(
+        alloc: Global,
+        words: &'a [&'a [u8]],
+        file: &'a [u8],
+        how: (Reads, Prints),
+    ) -> Host<'a> {
         Host {
             alloc,
             words,
             file,
-            report: b"",
-            schedule: b"",
-            earlier: (b"", b""),
-            reads: Reads::AllBytes,
-            prints: Prints::All,
+            reads: how.0,
+            prints: how.1,
             writes: Cell::new(0),
             printed: RefCell::new(Vec::new(alloc)),
             said: RefCell::new(String::new(alloc)),
@@ -76,10 +76,10 @@ impl<'a> Host<'a> {
         }
     }
 
-    /// Whether the standard output took nothing.
-    pub(crate) fn took_nothing(&self) -> bool {
+    /// Whether this was the last that the standard output took.
+    pub(crate) fn took(&self, text: &str) -> bool {
         match self.printed.try_borrow() {
-            Ok(printed) => printed.is_empty(),
+            Ok(printed) => printed.as_slice() == text.as_bytes(),
             Err(_) => false,
         }
     }
@@ -115,12 +115,12 @@ impl Alloc for Host<'_> {
 }
 
 impl Print for Host<'_> {
-    fn print<D: Display + Drop>(&self, _value: D) -> io::Result<()> {
-        self.write_once()
+    fn print<D: Display + Drop>(&self, value: D) -> io::Result<()> {
+        self.write_all(format!(in self.alloc; "{value}")?.as_bytes())
     }
 
-    fn println<D: Display + Drop>(&self, _value: D) -> io::Result<()> {
-        self.write_once()
+    fn println<D: Display + Drop>(&self, value: D) -> io::Result<()> {
+        self.write_all(format!(in self.alloc; "{value}\n")?.as_bytes())
     }
 
     fn write_all(&self, bytes: &[u8]) -> io::Result<()> {
@@ -225,10 +225,10 @@ impl<'a> Files for Host<'a> {
     fn open_file(&self, _how: &OpenOptions, path: &str) -> io::Result<Opened<'a>> {
         let rest = match path {
             "a.stm" => self.file,
-            "a.report" => self.report,
-            "a.schedule" => self.schedule,
-            "o.stm" => self.earlier.0,
-            "o.report" => self.earlier.1,
+            "a.report" => REPORT,
+            "a.schedule" => SCHEDULE,
+            "o.stm" => NEXT,
+            "o.report" => EMPTY,
             _ => return Err(io::Error::from(io::ErrorKind::NotFound)),
         };
         Ok(Opened {

@@ -14,7 +14,9 @@ use commands::running::run_input;
 use file_chains::Next;
 use run_interface::{Denials, Limit, Options, Out};
 use runner::OpenGate;
-use std::process::Abort;
+use std::alloc::Global;
+use std::sync::Wait;
+use std::thread::Threads;
 
 const SEEN: &[u8] = b"1 needs x\n2 ended returned 6\n3 committed 1\nnow 1\nx 6 1\n\
     attempt 0 0 committed 1 x 5\nend\n";
@@ -26,100 +28,95 @@ const GRAPH: &[u8] =
 
 const FOUND: &[u8] = b"states 3\ntx inc returned\nends 1\n1 x 7\nend\n";
 
-/// It is done, and this was written.
-fn expect(rt: &impl Abort, answer: Answer, out: Out<Vec<u8>>, text: &[u8]) {
-    assert!(rt; answer == Answer::Done);
-    assert!(rt; out.into_inner().as_slice() == text);
+/// Whether a file is run with this checkpoint, to this report.
+fn is_run(
+    rt: &(impl Threads + Wait + Sync),
+    alloc: Global,
+    checkpoint: u32,
+    report: &[u8],
+) -> bool {
+    let Some(options) = Options::new(1, 8, checkpoint) else {
+        return false;
+    };
+    let mut out = Out::new(Vec::new(alloc));
+    let answer = run_input(rt, alloc, FILE, options, &OpenGate, &mut out);
+    out.into_inner().as_slice() == report && answer == Answer::Done
 }
 
 #[test]
 fn a_file_is_run(rt: HostRuntime) {
-    for (checkpoint, report) in [
-        (0u32, REPORT),
-        (2, b"base 2\nx 7 2\nnow 2\nx 7 2\nend\n".as_slice()),
-    ] {
-        let Some(options) = Options::new(1, 8, checkpoint) else {
-            panic!(rt; "no options")
-        };
-        let mut out = Out::new(Vec::new(rt.alloc()));
-        let answer = run_input(&rt, rt.alloc(), FILE, options, &OpenGate, &mut out);
-        expect(&rt, answer, out, report);
-    }
+    assert!(rt; is_run(&rt, rt.alloc(), 0, REPORT));
+    assert!(rt; is_run(&rt, rt.alloc(), 2, b"base 2\nx 7 2\nnow 2\nx 7 2\nend\n"));
 }
 
-#[test]
-fn a_report_is_checked(rt: HostRuntime) {
-    let mut out = Out::new(Vec::new(rt.alloc()));
-    let answer = check_inputs(rt.alloc(), FILE, REPORT, &mut out);
-    expect(&rt, answer, out, b"good\n");
+/// What is done with what readers have.
+enum What {
+    Check,
+    CheckChapter,
+    Play,
+    Print,
+    Again,
+    Chapter,
+    Explore,
+    Witness,
+    Graph,
+    Explain,
+    ExplainReport,
+    ExplainChapter,
+    ExplainSchedule,
 }
 
-#[test]
-fn a_schedule_is_played(rt: HostRuntime) {
-    let mut out = Out::new(Vec::new(rt.alloc()));
-    let answer = play_inputs(rt.alloc(), FILE, SCHEDULE, &mut out);
-    expect(&rt, answer, out, SEEN);
-}
+/// Each command, and what it writes.
+const WRITTEN: &[(What, &[u8])] = &[
+    (What::Check, b"good\n"),
+    (What::CheckChapter, b"good\n"),
+    (What::Play, SEEN),
+    (
+        What::Print,
+        b"(var x 5)\n(tx inc (set x (add x 1)) x)\n(run inc 2)\n",
+    ),
+    (
+        What::Again,
+        b"(var x 7)\n(tx inc (set x (add x 1)) x)\n(run inc 2)\n",
+    ),
+    (What::Chapter, NEXT),
+    (What::Explore, FOUND),
+    (What::Witness, REPORT),
+    (What::Graph, GRAPH),
+    (What::Explain, b"good\n"),
+    (What::ExplainReport, b"good\n"),
+    (What::ExplainChapter, b"good\n"),
+    (What::ExplainSchedule, b"good\n"),
+];
 
-#[test]
-fn a_file_is_printed(rt: HostRuntime) {
-    let mut out = Out::new(Vec::new(rt.alloc()));
-    let answer = print_input(rt.alloc(), FILE, &mut out);
-    let text = b"(var x 5)\n(tx inc (set x (add x 1)) x)\n(run inc 2)\n";
-    expect(&rt, answer, out, text);
-}
-
-#[test]
-fn a_file_goes_on_from_a_report(rt: HostRuntime) {
-    let mut out = Out::new(Vec::new(rt.alloc()));
-    let answer = print_on_inputs(rt.alloc(), FILE, REPORT, Next::Again, &mut out);
-    let text = b"(var x 7)\n(tx inc (set x (add x 1)) x)\n(run inc 2)\n";
-    expect(&rt, answer, out, text);
-}
-
-#[test]
-fn the_next_chapter_is_printed(rt: HostRuntime) {
-    let mut out = Out::new(Vec::new(rt.alloc()));
-    let answer = print_on_inputs(rt.alloc(), FILE, REPORT, Next::Chapter, &mut out);
-    expect(&rt, answer, out, NEXT);
-}
-
-#[test]
-fn a_chapter_is_checked_and_explained(rt: HostRuntime) {
+/// Whether this is done and written.
+fn is_done<R: Eprint + AllocGlobal>(rt: &R, what: &What, limit: Limit, text: &[u8]) -> bool {
     let alloc = rt.alloc();
     let mut out = Out::new(Vec::new(alloc));
-    let answer = check_chapter_inputs(alloc, NEXT, EMPTY, FILE, REPORT, &mut out);
-    expect(&rt, answer, out, b"good\n");
-    let mut out = Out::new(Vec::new(alloc));
-    let answer = explain_chapter_inputs(alloc, NEXT, EMPTY, FILE, REPORT, &mut out);
-    expect(&rt, answer, out, b"good\n");
+    let answer = match what {
+        What::Check => check_inputs(alloc, FILE, REPORT, &mut out),
+        What::CheckChapter => check_chapter_inputs(alloc, NEXT, EMPTY, FILE, REPORT, &mut out),
+        What::Play => play_inputs(alloc, FILE, SCHEDULE, &mut out),
+        What::Print => print_input(alloc, FILE, &mut out),
+        What::Again => print_on_inputs(alloc, FILE, REPORT, Next::Again, &mut out),
+        What::Chapter => print_on_inputs(alloc, FILE, REPORT, Next::Chapter, &mut out),
+        What::Explore => explore_input(rt, FILE, limit, Denials::none(), &mut out),
+        What::Witness => witness_input(rt, FILE, limit, 0, &mut out),
+        What::Graph => graph_input(alloc, FILE, limit, &mut out),
+        What::Explain => explain_input(alloc, FILE, &mut out),
+        What::ExplainReport => explain_on_inputs(alloc, FILE, REPORT, &mut out),
+        What::ExplainChapter => explain_chapter_inputs(alloc, NEXT, EMPTY, FILE, REPORT, &mut out),
+        What::ExplainSchedule => explain_schedule_inputs(alloc, FILE, SCHEDULE, &mut out),
+    };
+    out.into_inner().as_slice() == text && answer == Answer::Done
 }
 
 #[test]
-fn all_orders_are_seen(rt: HostRuntime) {
+fn each_command_of_what_readers_have_is_done(rt: HostRuntime) {
     let Some(limit) = Limit::new(10) else {
         panic!(rt; "no limit")
     };
-    let mut out = Out::new(Vec::new(rt.alloc()));
-    let answer = explore_input(&rt, FILE, limit, Denials::none(), &mut out);
-    expect(&rt, answer, out, FOUND);
-    let mut out = Out::new(Vec::new(rt.alloc()));
-    let answer = witness_input(&rt, FILE, limit, 0, &mut out);
-    expect(&rt, answer, out, REPORT);
-    let mut out = Out::new(Vec::new(rt.alloc()));
-    let answer = graph_input(rt.alloc(), FILE, limit, &mut out);
-    expect(&rt, answer, out, GRAPH);
-}
-
-#[test]
-fn a_file_and_what_is_of_it_are_explained(rt: HostRuntime) {
-    let mut out = Out::new(Vec::new(rt.alloc()));
-    let answer = explain_input(rt.alloc(), FILE, &mut out);
-    expect(&rt, answer, out, b"good\n");
-    let mut out = Out::new(Vec::new(rt.alloc()));
-    let answer = explain_on_inputs(rt.alloc(), FILE, REPORT, &mut out);
-    expect(&rt, answer, out, b"good\n");
-    let mut out = Out::new(Vec::new(rt.alloc()));
-    let answer = explain_schedule_inputs(rt.alloc(), FILE, SCHEDULE, &mut out);
-    expect(&rt, answer, out, b"good\n");
+    for (what, text) in WRITTEN {
+        assert!(rt; is_done(&rt, what, limit, text));
+    }
 }

@@ -11,8 +11,6 @@ mod program;
 #[cfg(test)]
 mod reading;
 #[cfg(test)]
-mod shown;
-#[cfg(test)]
 mod tries;
 #[cfg(test)]
 mod words;

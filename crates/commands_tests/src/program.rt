@@ -3,7 +3,6 @@
 use crate::host::{Host, Prints, Reads};
 use commands::run;
 use std::alloc::{AllocError, Global};
-use std::process::Abort;
 use std::sync::Wait;
 use std::thread::Threads;
 
@@ -138,37 +137,33 @@ const UNREAD: &[&str] = &[
 ];
 
 /// The words of a command line.
-fn words_of(alloc: Global, line: &str) -> Result<Vec<&[u8]>, AllocError> {
+pub(crate) fn words_of(alloc: Global, line: &[u8]) -> Result<Vec<&[u8]>, AllocError> {
     let mut words = Vec::new(alloc);
-    for word in line.split(' ') {
-        words.push(word.as_bytes())?;
+    for word in line.split(|byte| *byte == b' ') {
+        words.push(word)?;
     }
     Ok(words)
 }
 
 /// Whether a process of these words, whose file reads and whose output writes so, ends so.
 fn ends(
-    rt: &(impl Threads + Wait + Sync + Abort),
+    rt: &(impl Threads + Wait + Sync),
     alloc: Global,
     words: &[&[u8]],
     how: (Reads, Prints),
     wanted: (u8, u32, &str),
 ) -> bool {
-    let mut host = Host::new(alloc, words, FILE);
-    host.report = REPORT;
-    host.schedule = SCHEDULE;
-    host.earlier = (NEXT, EMPTY);
-    (host.reads, host.prints) = how;
+    let host = Host::new(alloc, words, FILE, how);
     let status = run(rt, &host);
-    let is_taken = how.1 == Prints::All || host.took_nothing();
+    let is_taken = how.1 == Prints::All || host.took("");
     is_taken && status == wanted.0 && host.writes.get() == wanted.1 && host.says(wanted.2)
 }
 
 /// So it does of this command line.
 fn line_ends(
-    rt: &(impl Threads + Wait + Sync + Abort),
+    rt: &(impl Threads + Wait + Sync),
     alloc: Global,
-    line: &str,
+    line: &[u8],
     how: (Reads, Prints),
     wanted: (u8, u32, &str),
 ) -> bool {
@@ -182,45 +177,49 @@ fn line_ends(
 fn each_way_to_end_has_its_status_and_writes(rt: HostRuntime) {
     let how = (Reads::AllBytes, Prints::All);
     for &(line, status, writes, said) in ENDS {
+        let wanted = (status, writes, said);
         assert!(rt;
-            line_ends(&rt, rt.alloc(), line, how, (status, writes, said)),
+            line_ends(&rt, rt.alloc(), line.as_bytes(), how, wanted),
             "of {line}"
         );
     }
-}
-
-#[test]
-fn a_failing_output_is_4_and_is_not_tried_again(rt: HostRuntime) {
-    let told = (4, 1, "stm: cannot write\n");
-    for line in UNWRITTEN {
-        for prints in [Prints::Fails, Prints::Interrupted] {
-            assert!(rt;
-                line_ends(&rt, rt.alloc(), line, (Reads::AllBytes, prints), told),
-                "of {line}"
-            );
-        }
-    }
-}
-
-#[test]
-fn what_cannot_be_read_is_4_and_want_of_memory_is_5(rt: HostRuntime) {
-    for line in UNREAD {
-        for (reads, told) in [
-            (Reads::Fails, (4, 0, "stm: cannot read ")),
-            (Reads::WantsMemory, (5, 0, "stm: out of memory\n")),
-        ] {
-            assert!(rt;
-                line_ends(&rt, rt.alloc(), line, (reads, Prints::All), told),
-                "of {line}"
-            );
-        }
-    }
-}
-
-#[test]
-fn words_that_are_not_utf8_are_refused_by_3(rt: HostRuntime) {
-    let words = [b"stm".as_slice(), b"run", b"a\xffb.stm"];
-    let how = (Reads::AllBytes, Prints::All);
     let told = (3, 0, "stm: the command line is not UTF-8\n");
-    assert!(rt; ends(&rt, rt.alloc(), &words, how, told));
+    assert!(rt; line_ends(&rt, rt.alloc(), b"stm run a\xffb.stm", how, told));
+}
+
+/// What cannot be read or written is 4, and want of memory 5. How the file reads and the output writes, how the process
+/// ends then, and of which command lines.
+const FAILS: &[((Reads, Prints), (u8, u32, &str), &[&str])] = &[
+    (
+        (Reads::AllBytes, Prints::Fails),
+        (4, 1, "stm: cannot write\n"),
+        UNWRITTEN,
+    ),
+    (
+        (Reads::AllBytes, Prints::Interrupted),
+        (4, 1, "stm: cannot write\n"),
+        UNWRITTEN,
+    ),
+    (
+        (Reads::Fails, Prints::All),
+        (4, 0, "stm: cannot read "),
+        UNREAD,
+    ),
+    (
+        (Reads::WantsMemory, Prints::All),
+        (5, 0, "stm: out of memory\n"),
+        UNREAD,
+    ),
+];
+
+#[test]
+fn what_fails_is_told_and_not_tried_again(rt: HostRuntime) {
+    for &(how, told, lines) in FAILS {
+        for line in lines {
+            assert!(rt;
+                line_ends(&rt, rt.alloc(), line.as_bytes(), how, told),
+                "of {line}"
+            );
+        }
+    }
 }

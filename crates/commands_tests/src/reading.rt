@@ -4,7 +4,6 @@ use commands::reading::{read_file_up_to, read_up_to};
 use std::alloc::Global;
 use std::cell::Cell;
 use std::io::{self, Read};
-use std::process::Abort;
 
 /// A reader of these bytes, which are handed out in pieces of this length, and of so many spaces behind them, of which
 /// it counts those that it hands out.
@@ -32,53 +31,46 @@ impl Read for Spaces<'_> {
     }
 }
 
-/// Of a file that begins so and then has so many spaces, so many of these are read, and no more are taken.
-fn expect_file(
-    rt: &impl Abort,
+/// Whether of what begins so and then has so many spaces so many of these are read, and no more are taken: up to this
+/// limit, or else up to that of the file that it is.
+fn is_read(
     alloc: Global,
     front: &[u8],
     piece: usize,
-    size: usize,
+    left: usize,
+    limit: Option<usize>,
     count: usize,
-) {
+) -> bool {
     let handed = Cell::new(0);
     let input = Spaces {
         front,
         piece,
-        left: size,
+        left,
         handed: &handed,
     };
-    match read_file_up_to(alloc, input) {
-        Ok(bytes) => assert_eq!(rt; bytes.len(), front.len().saturating_add(count)),
-        Err(_) => panic!(rt; "not read"),
-    }
-    assert_eq!(rt; handed.get(), count);
-}
-
-/// Of so many bytes this many are read, and no more are taken from the reader.
-fn expect_read(rt: &impl Abort, alloc: Global, size: usize, limit: u32, count: usize) {
-    let handed = Cell::new(0);
-    let input = Spaces {
-        front: b"",
-        piece: 1,
-        left: size,
-        handed: &handed,
+    let read = match limit {
+        Some(limit) => read_up_to(alloc, input, limit),
+        None => read_file_up_to(alloc, input),
     };
-    match read_up_to(alloc, input, limit as usize) {
-        Ok(bytes) => assert_eq!(rt; bytes.len(), count),
-        Err(_) => panic!(rt; "not read"),
-    }
-    assert_eq!(rt; handed.get(), count);
+    let size = match read {
+        Ok(bytes) => Some(bytes.len()),
+        Err(_) => None,
+    };
+    size == Some(front.len().saturating_add(count)) && handed.get() == count
 }
 
 /// One byte past the limit is read, and no more, of a file, a schedule or a report.
 #[test]
 fn one_byte_past_the_limit_is_read(rt: HostRuntime) {
-    for limit in [0u32, 1, 1048576, 8388608] {
-        let size = limit as usize;
-        expect_read(&rt, rt.alloc(), size, limit, size);
-        expect_read(&rt, rt.alloc(), size + 1, limit, size + 1);
-        expect_read(&rt, rt.alloc(), size + 5, limit, size + 1);
+    for limit in [0usize, 1, 1_048_576, 8_388_608] {
+        for (more, beyond) in [(0, 0), (1, 1), (5, 1)] {
+            let size = limit.saturating_add(more);
+            let count = limit.saturating_add(beyond);
+            assert!(rt;
+                is_read(rt.alloc(), b"", 1, size, Some(limit), count),
+                "of {size}"
+            );
+        }
     }
 }
 
@@ -97,10 +89,19 @@ const BEGUN: &[(&[u8], usize)] = &[
 fn one_byte_past_the_limit_of_a_file_is_read(rt: HostRuntime) {
     for &(front, limit) in BEGUN {
         let most = limit.saturating_sub(front.len()).saturating_add(1);
-        for piece in [1, 3, 1000] {
-            expect_file(&rt, rt.alloc(), front, piece, 0, 0);
-            expect_file(&rt, rt.alloc(), front, piece, 100, 100);
+        for (piece, size, count) in [
+            (1, 0, 0),
+            (1, 100, 100),
+            (3, 0, 0),
+            (3, 100, 100),
+            (1000, 0, 0),
+            (1000, 100, 100),
+            (2, most.saturating_add(5), most),
+        ] {
+            assert!(rt;
+                is_read(rt.alloc(), front, piece, size, None, count),
+                "of {size}"
+            );
         }
-        expect_file(&rt, rt.alloc(), front, 2, most.saturating_add(5), most);
     }
 }

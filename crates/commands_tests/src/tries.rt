@@ -1,9 +1,10 @@
 //! The options of `stm run` come through to its workers: how often each tries a task.
 
-use crate::host::Host;
+use crate::host::{Host, Prints, Reads};
+use crate::program::words_of;
 use commands::run_by;
 use runner::{Gate, Point};
-use std::process::Abort;
+use std::alloc::Global;
 use std::sync::Wait;
 use std::sync::atomic::{AtomicU64, Ordering};
 use std::thread;
@@ -44,23 +45,41 @@ impl Gate for Spoils {
     }
 }
 
-/// The program ends with 0, and tries the first task so often.
-fn tries(rt: &(impl Threads + Wait + Sync + Abort), host: &Host<'_>, wanted: u64) {
+/// Whether a run of the file by these words ends with 0, and tries the first task so often.
+fn tries(
+    rt: &(impl Threads + Wait + Sync),
+    alloc: Global,
+    line: &[u8],
+    file: &[u8],
+    wanted: u64,
+) -> bool {
+    let Ok(words) = words_of(alloc, line) else {
+        return false;
+    };
+    let host = Host::new(
+        alloc,
+        words.as_slice(),
+        file,
+        (Reads::AllBytes, Prints::All),
+    );
+    is_tried(rt, &host, wanted)
+}
+
+/// Whether so does the program.
+fn is_tried(rt: &(impl Threads + Wait + Sync), host: &Host<'_>, wanted: u64) -> bool {
     let gate = Spoils {
         ends: AtomicU64::new(0),
         commits: AtomicU64::new(0),
     };
-    assert_eq!(rt; run_by(rt, host, &gate), 0);
-    assert_eq!(rt; gate.ends.load(Ordering::SeqCst), wanted);
+    run_by(rt, host, &gate) == 0 && gate.ends.load(Ordering::SeqCst) == wanted
 }
 
 #[test]
 fn a_task_is_tried_as_often_as_asked(rt: HostRuntime) {
-    let run = b"stm".as_slice();
-    let words = [run, b"run", b"a.stm", b"--workers", b"2", b"--tries", b"1"];
+    let line = b"stm run a.stm --workers 2 --tries 1";
     let file = b"(var x 5)(tx inc (set x (add x 1)) x)(run inc 2)";
-    tries(&rt, &Host::new(rt.alloc(), &words, file), 1);
-    let words = [run, b"run", b"a.stm", b"--workers", b"2", b"--tries", b"3"];
+    assert!(rt; tries(&rt, rt.alloc(), line, file, 1));
+    let line = b"stm run a.stm --workers 2 --tries 3";
     let file = b"(var x 5)(tx inc (set x (add x 1)) x)(run inc 4)";
-    tries(&rt, &Host::new(rt.alloc(), &words, file), 3);
+    assert!(rt; tries(&rt, rt.alloc(), line, file, 3));
 }
