@@ -29,12 +29,7 @@ pub(crate) fn over(alloc: Global, catalogue: &Catalogue, script: Script) -> Opti
     }
 }
 
-fn is_followed(
-    alloc: Global,
-    book: &mut Book<'_>,
-    catalogue: &Catalogue,
-    script: Script,
-) -> bool {
+fn is_followed(alloc: Global, book: &mut Book<'_>, catalogue: &Catalogue, script: Script) -> bool {
     match script {
         Script::Takes => book.take() == Some(A),
         Script::GivesUp => gives_up(alloc, book, catalogue),
@@ -138,7 +133,11 @@ fn reports(alloc: Global, book: &mut Book<'_>) -> bool {
 
 /// What is so, the text of a catalogue, and what is done with it.
 const USES: &[(&str, &str, Use)] = &[
-    ("after a refused opening a book opens", MANY, Use::OpensBooks),
+    (
+        "after a refused opening a book opens",
+        MANY,
+        Use::OpensBooks,
+    ),
     (
         "a task without memory is given up once",
         MANY,

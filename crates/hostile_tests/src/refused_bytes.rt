@@ -134,7 +134,10 @@ const CONDITIONS: &[(u8, &str)] = &[
 fn a_check_has_its_verdict_or_none(rt: HostRuntime) {
     for (file, reports) in [(INCREMENTS, VERDICTS), (DIVISION, CONDITIONS)] {
         for &(part, report) in reports {
-            assert!(rt; is_judged(rt.alloc(), file, part, report.as_bytes()), "of {report}");
+            assert!(rt;
+                is_judged(rt.alloc(), file, part, report.as_bytes()),
+                "of {report}"
+            );
         }
     }
 }

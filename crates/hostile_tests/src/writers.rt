@@ -88,9 +88,16 @@ fn is_cut(
 #[test]
 fn a_text_is_cut_where_a_writer_fails(rt: HostRuntime) {
     for text in [Text::Report, Text::World] {
-        for trouble in [Trouble::Fails, Trouble::IsInterrupted, Trouble::TakesNothing] {
+        for trouble in [
+            Trouble::Fails,
+            Trouble::IsInterrupted,
+            Trouble::TakesNothing,
+        ] {
             for taken in 0..=text.whole().len() {
-                assert!(rt; is_cut(&rt, rt.alloc(), text, trouble, taken), "behind {taken}");
+                assert!(rt;
+                    is_cut(&rt, rt.alloc(), text, trouble, taken),
+                    "behind {taken}"
+                );
             }
         }
     }

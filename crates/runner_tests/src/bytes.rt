@@ -36,8 +36,7 @@ fn a_file_is_run_or_refused(rt: HostRuntime) {
     }
 }
 
-const OWN: &str =
-    "(var x 1)(tx own (set x 5) x)(tx two (set x 2) 0)(run own 1)(run two 1)";
+const OWN: &str = "(var x 1)(tx own (set x 5) x)(tx two (set x 2) 0)(run own 1)(run two 1)";
 
 /// A file, a schedule, the fault in which that ends, if in any, and what is seen.
 const PLAYED: &[(&str, &str, Option<RunFault>, &str)] = &[
@@ -55,17 +54,16 @@ const PLAYED: &[(&str, &str, Option<RunFault>, &str)] = &[
         Some(RunFault::Input(ReadFault::Shape)),
         "",
     ),
-    (OWN, "begin 0", Some(RunFault::Schedule(ReadFault::Shape)), ""),
+    (
+        OWN,
+        "begin 0",
+        Some(RunFault::Schedule(ReadFault::Shape)),
+        "",
+    ),
 ];
 
 /// Whether the schedule of the file ends in this fault, if in any, and shows this.
-fn shows(
-    alloc: Global,
-    file: &str,
-    schedule: &str,
-    fault: Option<RunFault>,
-    text: &str,
-) -> bool {
+fn shows(alloc: Global, file: &str, schedule: &str, fault: Option<RunFault>, text: &str) -> bool {
     let mut out = Out::new(Vec::new(alloc));
     let found = world_bytes(alloc, file.as_bytes(), schedule.as_bytes(), &mut out).err();
     let is_so = found == fault && out.failures() == 0;

@@ -30,8 +30,7 @@ pub(crate) fn times(counts: &AtomicU64, point: Point) -> u64 {
 
 /// Whether the points were come to so often, in their order.
 pub(crate) fn are(counts: &AtomicU64, wanted: [u64; 4]) -> bool {
-    counts.load(Ordering::SeqCst)
-        == wanted[0] | wanted[1] << 16 | wanted[2] << 32 | wanted[3] << 48
+    counts.load(Ordering::SeqCst) == wanted[0] | wanted[1] << 16 | wanted[2] << 32 | wanted[3] << 48
 }
 
 /// Waits until the count is so high, but not for ever. Whether it is.

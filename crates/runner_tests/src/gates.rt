@@ -38,8 +38,7 @@ const MOVED: &str = "base 0\nx 1 0\ny 1 0\nentry 1 1 sety returned 0\nentry 2 0 
     now 2\nx 1 0\ny 5 1\nend\n";
 
 /// A task that throws what another one changes, and the report where the other one commits first.
-const BAD: &str =
-    "(var x 5)(tx bad (throw x) 0)(tx inc (set x (add x 1)) x)(run bad 1)(run inc 1)";
+const BAD: &str = "(var x 5)(tx bad (throw x) 0)(tx inc (set x (add x 1)) x)(run bad 1)(run inc 1)";
 
 const THROWN: &str =
     "base 0\nx 5 0\nentry 1 1 inc returned 6\nentry 2 0 bad threw 6\nnow 2\nx 6 1\nend\n";
@@ -107,9 +106,30 @@ const ROWS: &[Row] = &[
         Some(1),
     ),
     // Whatever its end is, an attempt whose reads are no longer so when it comes to the book is tried again.
-    ("no throw comes of a value that is gone", BAD, THROWN, 8, BOTH, Some(2)),
-    ("nobody waits for a value that has come", WAIT, WOKEN, 8, BOTH, Some(2)),
-    ("no sum is of a value that is gone", SUM, MOVED, 8, BOTH, Some(2)),
+    (
+        "no throw comes of a value that is gone",
+        BAD,
+        THROWN,
+        8,
+        BOTH,
+        Some(2),
+    ),
+    (
+        "nobody waits for a value that has come",
+        WAIT,
+        WOKEN,
+        8,
+        BOTH,
+        Some(2),
+    ),
+    (
+        "no sum is of a value that is gone",
+        SUM,
+        MOVED,
+        8,
+        BOTH,
+        Some(2),
+    ),
 ];
 
 /// Whether a run by two workers with these holds writes this report, none of them waits in vain, and the first task
@@ -133,7 +153,10 @@ fn is_so(
 #[test]
 fn tasks_are_held_at_gates(rt: HostRuntime) {
     for &(what, file, report, tries, holds, ends) in ROWS {
-        assert!(rt; is_so(&rt, rt.alloc(), file, report, tries, holds, ends), "{what}");
+        assert!(rt;
+            is_so(&rt, rt.alloc(), file, report, tries, holds, ends),
+            "{what}"
+        );
     }
 }
 

@@ -14,11 +14,17 @@ const SLOW: &str =
     (tx quick (seq (repeat 1000 (if (lt x 0) (throw 1) (skip))) (set y (add y 1))) 0)(run slow 1)(run quick 10)";
 
 /// Whether a quick task commits first, `None` where the run ends in a fault.
-fn is_overtaken(rt: &(impl Threads + Wait + Sync), alloc: Global, options: Options) -> Option<bool> {
+fn is_overtaken(
+    rt: &(impl Threads + Wait + Sync),
+    alloc: Global,
+    options: Options,
+) -> Option<bool> {
     let mut out = Out::new(Vec::new(alloc));
     let ran = run_bytes(rt, alloc, SLOW.as_bytes(), options, &OpenGate, &mut out);
     let text = out.into_inner();
-    let is_first = text.as_slice().starts_with(b"base 0\nx 0 0\ny 0 0\nentry 1 1 quick ");
+    let is_first = text
+        .as_slice()
+        .starts_with(b"base 0\nx 0 0\ny 0 0\nentry 1 1 quick ");
     if ran.is_ok() { Some(is_first) } else { None }
 }
 

@@ -46,6 +46,9 @@ fn goes_on(alloc: Global, report: &str, next: Next, verdict: Verdict, text: &str
 fn a_file_is_printed_and_goes_on(rt: HostRuntime) {
     assert!(rt; is_printed(rt.alloc()));
     for &(report, next, verdict, text) in GOES_ON {
-        assert!(rt; goes_on(rt.alloc(), report, next, verdict, text), "of {text}");
+        assert!(rt;
+            goes_on(rt.alloc(), report, next, verdict, text),
+            "of {text}"
+        );
     }
 }

@@ -125,6 +125,9 @@ fn have_in(
 #[test]
 fn tasks_have_their_sizes(rt: HostRuntime) {
     for &(what, text, weights, letters, light, short) in ROWS {
-        assert!(rt; have_in(rt.alloc(), text, weights, letters, light, short), "{what}");
+        assert!(rt;
+            have_in(rt.alloc(), text, weights, letters, light, short),
+            "{what}"
+        );
     }
 }

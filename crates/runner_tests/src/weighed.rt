@@ -203,7 +203,10 @@ fn come_to(
 #[test]
 fn tasks_that_are_tried_come_to_points(rt: HostRuntime) {
     for &(runs, workers, weights, points, left) in COME {
-        assert!(rt; come_to(&rt, rt.alloc(), runs, workers, weights, points, left), "of {runs}");
+        assert!(rt;
+            come_to(&rt, rt.alloc(), runs, workers, weights, points, left),
+            "of {runs}"
+        );
     }
 }
 
@@ -213,7 +216,17 @@ fn each_task_is_tried_under_an_open_gate(rt: HostRuntime) {
     let options = options(&rt, 4, 8, 0);
     let runs = "(run inc 400)(run far 100)";
     let left = (500, [].as_slice(), 505);
-    assert!(rt; leaves_of(&rt, rt.alloc(), runs, options, Weights::EACH, &OpenGate, left));
+    assert!(rt;
+        leaves_of(
+            &rt,
+            rt.alloc(),
+            runs,
+            options,
+            Weights::EACH,
+            &OpenGate,
+            left
+        )
+    );
 }
 
 /// Two holds, and how often tasks came to the points: the first, and all.
