@@ -4,7 +4,6 @@ use checker::{ChapterFault, ChapterVerdict, Part};
 use explain_reports::{ChapterUntold, explain_chapter_bytes};
 use run_interface::Out;
 use std::alloc::Global;
-use std::process::Abort;
 use txn_text::ReadFault;
 
 /// One task waits for n to be another value than 0, one for 100 or more, one adds 7.
@@ -34,7 +33,7 @@ fn is_said(
         earlier.1.as_bytes(),
         &mut out,
     );
-    found == wanted && out.into_inner().as_slice() == text.as_bytes()
+    out.into_inner().as_slice() == text.as_bytes() && found == wanted
 }
 
 /// The chapter behind that pair, and a report of it.
@@ -43,51 +42,59 @@ const NEXT: &str =
 
 const TWO_WAIT: &str = "base 0\nn 7 0\nnow 0\nn 7 0\nparked 0 hold\nparked 1 hold\nend\n";
 
-#[test]
-fn a_chapter_is_explained(rt: HostRuntime) {
-    for (chapter, earlier, verdict, text) in [
-        (
-            (NEXT, TWO_WAIT),
-            (FIRST, ENDED),
-            ChapterVerdict::Good,
-            "good\n",
-        ),
-        (
-            (FIRST, WRONG),
-            (FIRST, WRONG),
-            ChapterVerdict::Bad(Part::Entries),
-            "bad 3\nline 3: entry 1 2 inc returned 8\nreplay has entry 1 2 inc returned 7\n",
-        ),
-        (
-            (FIRST, ENDED),
-            (FIRST, WRONG),
-            ChapterVerdict::Before(Part::Entries),
-            "before bad 3\nline 3: entry 1 2 inc returned 8\nreplay has entry 1 2 inc returned 7\n",
-        ),
-        (
-            (FIRST, ENDED),
-            (FIRST, ENDED),
-            ChapterVerdict::Elsewhere,
-            "bad 7\n(var n 7) is wanted; here stands (var n 0)\n",
-        ),
-    ] {
-        assert!(rt;
-            is_said(rt.alloc(), chapter, earlier, Ok(verdict), text),
-            "of {text}"
-        );
-    }
-}
+/// A file and its report, those of the chapter before, the verdict or the fault, and what is said.
+type Row = (
+    (&'static str, &'static str),
+    (&'static str, &'static str),
+    Result<ChapterVerdict, ChapterUntold>,
+    &'static str,
+);
+
+const ROWS: &[Row] = &[
+    (
+        (NEXT, TWO_WAIT),
+        (FIRST, ENDED),
+        Ok(ChapterVerdict::Good),
+        "good\n",
+    ),
+    (
+        (FIRST, WRONG),
+        (FIRST, WRONG),
+        Ok(ChapterVerdict::Bad(Part::Entries)),
+        "bad 3\nline 3: entry 1 2 inc returned 8\nreplay has entry 1 2 inc returned 7\n",
+    ),
+    (
+        (FIRST, ENDED),
+        (FIRST, WRONG),
+        Ok(ChapterVerdict::Before(Part::Entries)),
+        "before bad 3\nline 3: entry 1 2 inc returned 8\nreplay has entry 1 2 inc returned 7\n",
+    ),
+    (
+        (FIRST, ENDED),
+        (FIRST, ENDED),
+        Ok(ChapterVerdict::Elsewhere),
+        "bad 7\n(var n 7) is wanted; here stands (var n 0)\n",
+    ),
+    (
+        ("(var", ENDED),
+        ("(var", ENDED),
+        Err(ChapterUntold::Unjudged(ChapterFault::File(ReadFault::Shape))),
+        "",
+    ),
+    (
+        (FIRST, ENDED),
+        ("(var", ENDED),
+        Err(ChapterUntold::Unjudged(ChapterFault::Earlier(ReadFault::Shape))),
+        "",
+    ),
+];
 
 #[test]
-fn refused_files_say_nothing(rt: HostRuntime) {
-    let file = ChapterFault::File(ReadFault::Shape);
-    let earlier = ChapterFault::Earlier(ReadFault::Shape);
-    for (chapter, fault) in [(("(var", ENDED), file), ((FIRST, ENDED), earlier)] {
-        let untold = Err(ChapterUntold::Unjudged(fault));
+fn a_chapter_is_explained_or_refused(rt: HostRuntime) {
+    for &(chapter, earlier, wanted, text) in ROWS {
         assert!(rt;
-            is_said(rt.alloc(), chapter, ("(var", ENDED), untold, ""),
-            "of {}",
-            chapter.0
+            is_said(rt.alloc(), chapter, earlier, wanted, text),
+            "of {text}"
         );
     }
 }

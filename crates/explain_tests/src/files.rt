@@ -3,56 +3,58 @@
 use explain_files::{Explanation, Judgement, explain, explain_bytes, position_of};
 use run_interface::Out;
 use std::alloc::{AllocError, Global};
-use std::process::Abort;
 use text_words::ReadFault;
 
-/// The kind, the line and the column of the first fault, where the bytes are refused and there is memory.
-fn fault_of(alloc: Global, bytes: &[u8]) -> Option<(ReadFault, usize, usize)> {
+/// The kind of the first fault, with its line and its column.
+type Place = (ReadFault, usize, usize);
+
+/// Whether the bytes are refused by this fault, or good where there is none.
+fn is_explained(alloc: Global, bytes: &[u8], wanted: Option<Place>) -> bool {
     match explain(alloc, bytes) {
         Ok(Explanation::Refused(refusal)) => {
             if refusal.place > bytes.len() {
-                return None;
+                return false;
             }
             let at = position_of(bytes, refusal.place);
-            Some((refusal.kind, at.line, at.column))
+            wanted == Some((refusal.kind, at.line, at.column))
         }
-        _ => None,
+        Ok(Explanation::Good) => wanted.is_none(),
+        Err(_) => false,
     }
 }
 
-/// A file of each kind of fault, with its place.
-const FAULTS: &[(&str, ReadFault, usize, usize)] = &[
-    ("(var x 5)\n; a\tb\tc\n", ReadFault::BadByte, 2, 4),
+/// How many spaces a file begins with, what stands behind them, and its first fault, if it has one: a file of each kind
+/// of fault, the longest one, and one of a byte more.
+const FAULTS: &[(usize, &str, Option<Place>)] = &[
+    (0, "(var x 5)", None),
     (
+        0,
+        "(var x 5)\n; a\tb\tc\n",
+        Some((ReadFault::BadByte, 2, 4)),
+    ),
+    (
+        0,
         "(var x 1)\n(tx t (set x (plus x 1)) x)",
-        ReadFault::Shape,
-        2,
-        15,
+        Some((ReadFault::Shape, 2, 15)),
     ),
     (
+        0,
         "(var x 1)\n(tx t (set y (add z 1)) x)",
-        ReadFault::Name,
-        2,
-        12,
+        Some((ReadFault::Name, 2, 12)),
     ),
-    ("(var x 9223372036854775808)", ReadFault::Limit, 1, 8),
     (
-        "; a\n(stm 2)\n\n(always ; a\n  a (eq 0 1))",
-        ReadFault::Broken,
-        5,
-        3,
+        0,
+        "(var x 9223372036854775808)",
+        Some((ReadFault::Limit, 1, 8)),
     ),
+    (
+        0,
+        "; a\n(stm 2)\n\n(always ; a\n  a (eq 0 1))",
+        Some((ReadFault::Broken, 5, 3)),
+    ),
+    (1_048_575, "\t", Some((ReadFault::BadByte, 1, 1_048_576))),
+    (1_048_575, "\t)", Some((ReadFault::TooLong, 1, 1_048_577))),
 ];
-
-#[test]
-fn each_kind_has_its_place(rt: HostRuntime) {
-    for &(text, kind, line, column) in FAULTS {
-        let found = fault_of(rt.alloc(), text.as_bytes());
-        assert!(rt; found == Some((kind, line, column)), "of {text}");
-    }
-    let good = explain(rt.alloc(), b"(var x 5)");
-    assert!(rt; good == Ok(Explanation::Good));
-}
 
 /// So many spaces, and then the text.
 fn behind_spaces(alloc: Global, count: usize, text: &str) -> Result<Vec<u8>, AllocError> {
@@ -61,26 +63,29 @@ fn behind_spaces(alloc: Global, count: usize, text: &str) -> Result<Vec<u8>, All
     Ok(bytes)
 }
 
-/// Whether the text behind so many spaces is refused by this kind at this column.
-fn is_at_the_end(alloc: Global, count: usize, text: &str, kind: ReadFault, column: usize) -> bool {
+/// Whether the text behind so many spaces is explained so.
+fn is_explained_behind(alloc: Global, count: usize, text: &str, wanted: Option<Place>) -> bool {
     match behind_spaces(alloc, count, text) {
-        Ok(bytes) => fault_of(alloc, bytes.as_slice()) == Some((kind, 1, column)),
+        Ok(bytes) => is_explained(alloc, bytes.as_slice(), wanted),
         Err(_) => false,
     }
 }
 
 #[test]
-fn the_longest_file_and_one_byte_more(rt: HostRuntime) {
-    let alloc = rt.alloc();
-    assert!(rt; is_at_the_end(alloc, 1_048_575, "\t", ReadFault::BadByte, 1_048_576));
-    assert!(rt; is_at_the_end(alloc, 1_048_575, "\t)", ReadFault::TooLong, 1_048_577));
+fn each_kind_has_its_place(rt: HostRuntime) {
+    for &(count, text, wanted) in FAULTS {
+        assert!(rt;
+            is_explained_behind(rt.alloc(), count, text, wanted),
+            "of {text}"
+        );
+    }
 }
 
 /// Whether the file is told so, with this line and nothing else.
 fn is_told(alloc: Global, file: &str, line: &str, told: Judgement) -> bool {
     let mut out = Out::new(Vec::new(alloc));
     let found = explain_bytes(alloc, file.as_bytes(), &mut out).ok();
-    found == Some(told) && out.into_inner().as_slice() == line.as_bytes()
+    out.into_inner().as_slice() == line.as_bytes() && found == Some(told)
 }
 
 const LINES: &[(&str, &str, Judgement)] = &[

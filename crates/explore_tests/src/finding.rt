@@ -1,9 +1,8 @@
 //! The report of a run that comes to a turn that is sought.
 
 use explore_runner::{Limit, OutcomeWords, Sighted, find_bytes};
-use runner::{Out, RunFault};
+use runner::Out;
 use std::alloc::Global;
-use std::process::Abort;
 
 /// One who pays twice what is there, one who puts it there, and one who waits for it.
 const SHOP: &str = "(stm 2)(var x 0)(always some (le 0 x))\
@@ -43,7 +42,7 @@ fn is_answered(
     };
     let mut out = Out::new(Vec::new(alloc));
     let found = find_bytes(alloc, file.as_bytes(), limit, sought.0, outcome, &mut out).ok();
-    found == wanted && out.into_inner().as_slice() == text.as_bytes()
+    out.into_inner().as_slice() == text.as_bytes() && found == wanted
 }
 
 #[test]
@@ -56,68 +55,50 @@ fn what_is_sought_is_answered(rt: HostRuntime) {
     assert!(rt; is_answered(rt.alloc(), "(var x", ("t", "threw"), 3, None, ""));
 }
 
-#[test]
-fn a_report_that_has_no_room_is_told(rt: HostRuntime) {
-    let alloc = rt.alloc();
-    let Some(limit) = Limit::new(5) else {
-        panic!(rt; "no limit");
-    };
-    let mut room = [0u8; 5];
-    let mut out = Out::new(room.as_mut_slice());
-    let file = b"(tx t (skip) 0)(run t 1)".as_slice();
-    let answer = find_bytes(alloc, file, limit, "t", OutcomeWords::Overflow, &mut out);
-    assert!(rt; answer == Err(RunFault::Output));
-}
+/// Words, and the outcome that they say, if they say one.
+const READ: &[(&str, Option<OutcomeWords<'static>>)] = &[
+    ("returned", Some(OutcomeWords::Returned(None))),
+    ("returned 0", Some(OutcomeWords::Returned(Some(0)))),
+    (
+        "returned 9223372036854775807",
+        Some(OutcomeWords::Returned(Some(i64::MAX))),
+    ),
+    ("threw", Some(OutcomeWords::Threw(None))),
+    (
+        "threw -9223372036854775808",
+        Some(OutcomeWords::Threw(Some(i64::MIN))),
+    ),
+    ("overflow", Some(OutcomeWords::Overflow)),
+    ("zerodiv", Some(OutcomeWords::ZeroDiv)),
+    ("outside", Some(OutcomeWords::Outside)),
+    ("broke", Some(OutcomeWords::Broke(None))),
+    ("broke sum", Some(OutcomeWords::Broke(Some("sum")))),
+    ("parks", Some(OutcomeWords::Parks)),
+    ("", None),
+    ("return", None),
+    ("returned ", None),
+    ("returned x", None),
+    ("returned 01", None),
+    ("returned -0", None),
+    ("returned +1", None),
+    ("returned  1", None),
+    ("returned 1 ", None),
+    ("returned 9223372036854775808", None),
+    ("threw -9223372036854775809", None),
+    ("Threw", None),
+    ("overflow 1", None),
+    ("zerodiv ", None),
+    ("broke ", None),
+    ("broke 1", None),
+    ("broke a b", None),
+    ("parked", None),
+    ("parks 1", None),
+    (" parks", None),
+];
 
 #[test]
 fn outcomes_are_read_from_words(rt: HostRuntime) {
-    for (text, outcome) in [
-        ("returned", OutcomeWords::Returned(None)),
-        ("returned 0", OutcomeWords::Returned(Some(0))),
-        (
-            "returned 9223372036854775807",
-            OutcomeWords::Returned(Some(i64::MAX)),
-        ),
-        ("threw", OutcomeWords::Threw(None)),
-        (
-            "threw -9223372036854775808",
-            OutcomeWords::Threw(Some(i64::MIN)),
-        ),
-        ("overflow", OutcomeWords::Overflow),
-        ("zerodiv", OutcomeWords::ZeroDiv),
-        ("outside", OutcomeWords::Outside),
-        ("broke", OutcomeWords::Broke(None)),
-        ("broke sum", OutcomeWords::Broke(Some("sum"))),
-        ("parks", OutcomeWords::Parks),
-    ] {
-        assert!(rt; OutcomeWords::read(text) == Some(outcome), "of {text}");
-    }
-}
-
-#[test]
-fn other_words_are_no_outcome(rt: HostRuntime) {
-    for text in [
-        "",
-        "return",
-        "returned ",
-        "returned x",
-        "returned 01",
-        "returned -0",
-        "returned +1",
-        "returned  1",
-        "returned 1 ",
-        "returned 9223372036854775808",
-        "threw -9223372036854775809",
-        "Threw",
-        "overflow 1",
-        "zerodiv ",
-        "broke ",
-        "broke 1",
-        "broke a b",
-        "parked",
-        "parks 1",
-        " parks",
-    ] {
-        assert!(rt; OutcomeWords::read(text) == None, "of {text}");
+    for (text, outcome) in READ {
+        assert!(rt; OutcomeWords::read(text) == *outcome, "of {text}");
     }
 }

@@ -1,5 +1,5 @@
-//! Tests of the public calls of `explore_search` and of `explore_runner`, each on its happy path and at its limits. What
-//! is found of which file is played by `cases/orders.cases`.
+//! Tests of the public calls of `explore_search` and of `explore_runner`, each on its happy path and at its limits.
+//! What is found of which file is played by `cases/orders.cases`.
 #![tactic(auto)]
 
 #[cfg(test)]
@@ -12,5 +12,7 @@ mod graphs;
 mod orders;
 #[cfg(test)]
 mod reports;
+#[cfg(test)]
+mod searches;
 #[cfg(test)]
 mod texts;

@@ -1,9 +1,8 @@
 //! What is printed of all orders of small files, and what is said of what is denied.
 
 use explore_runner::{Denial, Denials, Judged, Limit, Sight, explore_bytes, judge_bytes};
-use runner::{Out, RunFault};
+use runner::Out;
 use std::alloc::Global;
-use std::process::Abort;
 
 const TWO: &str = "(var x 0)(tx two (set x 2) x)(tx one (set x 1) x)(run two 1)(run one 1)";
 
@@ -16,7 +15,7 @@ fn is_written(alloc: Global, file: &str, states: u32, wanted: Option<Sight>, tex
     };
     let mut out = Out::new(Vec::new(alloc));
     let answer = explore_bytes(alloc, file.as_bytes(), limit, &mut out).ok();
-    answer == wanted && out.into_inner().as_slice() == text.as_bytes()
+    out.into_inner().as_slice() == text.as_bytes() && answer == wanted
 }
 
 #[test]
@@ -27,29 +26,17 @@ fn what_is_found_is_printed(rt: HostRuntime) {
     assert!(rt; is_written(alloc, "(var x", 5, None, ""));
 }
 
-#[test]
-fn a_limit_is_from_1_to_16777216(rt: HostRuntime) {
-    for (states, taken) in [
-        (0, false),
-        (1, true),
-        (16_777_216, true),
-        (16_777_217, false),
-    ] {
-        match Limit::new(states) {
-            Some(limit) => assert!(rt; taken && limit.states() == states),
-            None => assert!(rt; !taken),
-        }
-    }
+/// How many states may be seen, `None` where there may not be so many.
+fn states_of(states: u32) -> Option<u32> {
+    let limit = Limit::new(states)?;
+    limit.law();
+    Some(limit.states())
 }
 
 #[test]
-fn no_room_is_told(rt: HostRuntime) {
-    let Some(limit) = Limit::new(5) else {
-        panic!(rt; "no limit");
-    };
-    let mut room = [0u8; 9];
-    let mut out = Out::new(room.as_mut_slice());
-    assert!(rt; explore_bytes(rt.alloc(), b"", limit, &mut out) == Err(RunFault::Output));
+fn a_limit_is_from_1_to_16777216(rt: HostRuntime) {
+    assert!(rt; states_of(0).is_none() && states_of(16_777_217).is_none());
+    assert!(rt; states_of(1) == Some(1) && states_of(16_777_216) == Some(16_777_216));
 }
 
 /// What is said where some order comes to what is denied.
@@ -73,7 +60,7 @@ fn is_judged(alloc: Global, file: &str, denials: Denials, said: Said, text: &str
         (Ok(Judged::More), Said::More) => true,
         _ => false,
     };
-    is_said && out.into_inner().as_slice() == text.as_bytes()
+    out.into_inner().as_slice() == text.as_bytes() && is_said
 }
 
 #[test]
@@ -89,22 +76,33 @@ fn what_is_denied_is_told(rt: HostRuntime) {
     assert!(rt; is_judged(alloc, many, denied, Said::More, "more than 20 states\n"));
 }
 
+/// Words, and what they deny, if anything.
+const DENIED: &[(&str, Option<Denial>)] = &[
+    ("parked", Some(Denial::Parked)),
+    ("threw", Some(Denial::Threw)),
+    ("broke", Some(Denial::Broke)),
+    ("overflow", Some(Denial::Overflow)),
+    ("zerodiv", Some(Denial::ZeroDiv)),
+    ("outside", Some(Denial::Outside)),
+    ("", None),
+    ("park", None),
+    ("parks", None),
+    ("parked ", None),
+    ("Threw", None),
+    ("returned", None),
+];
+
+/// Whether none of these is this one, unless it is put to them.
+fn is_put(denial: Denial) -> bool {
+    Denials::none().with(denial).has(denial) && !Denials::none().has(denial)
+}
+
 #[test]
 fn what_can_be_denied_has_a_word(rt: HostRuntime) {
-    let words = [
-        ("parked", Denial::Parked),
-        ("threw", Denial::Threw),
-        ("broke", Denial::Broke),
-        ("overflow", Denial::Overflow),
-        ("zerodiv", Denial::ZeroDiv),
-        ("outside", Denial::Outside),
-    ];
-    for (word, denial) in words {
-        assert!(rt; Denial::named(word) == Some(denial));
-        assert!(rt; Denials::none().with(denial).has(denial));
-        assert!(rt; !Denials::none().has(denial));
-    }
-    for word in ["", "park", "parks", "parked ", "Threw", "returned"] {
-        assert!(rt; Denial::named(word) == None);
+    for &(word, denial) in DENIED {
+        assert!(rt;
+            Denial::named(word) == denial && denial.is_none_or(is_put),
+            "of {word}"
+        );
     }
 }
