@@ -15,41 +15,58 @@ fn lists(numbers: &mut NumberIndex, number: u32) -> bool {
     }
 }
 
-/// Of the same bucket, one after another, and anew in what was cleared.
-#[test]
-fn places_of_numbers(rt: HostRuntime) {
-    let mut numbers = NumberIndex::new(rt.alloc());
-    for round in 0..3u32 {
-        for k in 0..100 {
-            assert!(&rt; lists(&mut numbers, 64 * k + round));
+/// A hundred numbers of one bucket, one after another, which are cleared then.
+fn lists_a_bucket(numbers: &mut NumberIndex, round: u8) -> bool {
+    let round = u32::from(round);
+    for k in 0..100 {
+        if !lists(numbers, 64 * k + round) {
+            return false;
         }
-        assert!(&rt; numbers.len() == 100);
-        assert!(&rt; numbers.find(64 + round) == Some(1));
-        assert!(&rt; numbers.find(65 + round).is_none());
-        numbers.clear();
-        assert!(&rt; numbers.len() == 0 && numbers.find(round).is_none());
     }
+    let found = numbers.len() == 100
+        && numbers.find(64 + round) == Some(1)
+        && numbers.find(65 + round).is_none();
+    numbers.clear();
+    found && numbers.len() == 0 && numbers.find(round).is_none()
 }
 
-#[test]
-fn a_hundred_thousand(rt: HostRuntime) {
-    let mut numbers = NumberIndex::new(rt.alloc());
+/// Whether each of a hundred thousand numbers is taken.
+fn lists_many(numbers: &mut NumberIndex) -> bool {
     for number in 300..100_300 {
-        assert!(&rt; lists(&mut numbers, number));
+        if !lists(numbers, number) {
+            return false;
+        }
     }
-    assert!(&rt; numbers.len() == 100_000);
-    for number in 300..100_300u32 {
-        assert!(&rt; numbers.find(number) == Some((number - 300) as usize));
-    }
-    assert!(&rt; numbers.find(299).is_none() && numbers.find(100_300).is_none());
+    numbers.len() == 100_000
 }
 
-/// The highest number that there may be, and the lowest.
+/// Whether each of them is found where it stands, and its neighbours are not.
+fn finds_many(numbers: &NumberIndex) -> bool {
+    for number in 300..100_300u32 {
+        if numbers.find(number) != Some((number - 300) as usize) {
+            return false;
+        }
+    }
+    numbers.find(299).is_none() && numbers.find(100_300).is_none()
+}
+
+/// Whether the highest number that there may be is taken, and the lowest.
+fn lists_the_highest(numbers: &mut NumberIndex) -> bool {
+    numbers.clear();
+    lists(numbers, 1_048_831)
+        && lists(numbers, 0)
+        && numbers.find(1_048_831) == Some(0)
+        && numbers.find(1_048_830).is_none()
+}
+
 #[test]
-fn the_highest_number(rt: HostRuntime) {
+fn numbers_are_found_at_their_places(rt: HostRuntime) {
     let mut numbers = NumberIndex::new(rt.alloc());
-    assert!(&rt; lists(&mut numbers, 1_048_831));
-    assert!(&rt; lists(&mut numbers, 0));
-    assert!(&rt; numbers.find(1_048_831) == Some(0));
-    assert!(&rt; numbers.find(1_048_830).is_none());
+    let are_found = lists_a_bucket(&mut numbers, 0)
+        && lists_a_bucket(&mut numbers, 1)
+        && lists_a_bucket(&mut numbers, 2)
+        && lists_many(&mut numbers)
+        && finds_many(&numbers)
+        && lists_the_highest(&mut numbers);
+    assert!(rt; are_found);
 }

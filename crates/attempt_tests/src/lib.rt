@@ -1,4 +1,4 @@
-//! Tests of the public calls of `attempt`.
+//! Tests of the public calls of `attempt`. What an attempt reads and writes is played by `cases/attempts.cases` too.
 #![tactic(auto)]
 
 #[cfg(test)]
@@ -10,11 +10,11 @@ mod cells;
 #[cfg(test)]
 mod counted;
 #[cfg(test)]
+mod deep;
+#[cfg(test)]
 mod ends;
 #[cfg(test)]
 mod indexed;
-#[cfg(test)]
-mod many;
 #[cfg(test)]
 mod one;
 #[cfg(test)]

@@ -1,18 +1,16 @@
-//! Attempts are played call by call, and each call's answer is compared.
+//! Attempts are played call by call, and each call's answer is compared. What needs no count of nodes is played by
+//! `cases/attempts.cases`.
 
-use crate::parts::{catalogue, repeated};
+use crate::parts::catalogue;
+use crate::{again, branches, cells, deep, one, standing, steps};
 use attempt::{Attempt, Next};
 use std::alloc::Global;
-use std::process::Abort;
 use txn::{Catalogue, Outcome, TxId, VarId};
 
 /// Calls of an attempt, and what they answer.
-#[derive(Clone, Copy)]
-pub(crate) enum Step<'s> {
+pub(crate) enum Step {
     /// `advance` answers this, and enters so many nodes.
     Advance(Next, u64),
-    /// `advance` answers this, however many nodes it enters.
-    Answer(Next),
     /// `advance` enters so many nodes, whatever it answers.
     Enter(u64),
     /// `advance` needs this variable, and enters so many nodes; then the attempt is told its value.
@@ -21,20 +19,22 @@ pub(crate) enum Step<'s> {
     Sixes(u32),
     /// How it ended, if it did.
     Outcome(Option<Outcome>),
-    Log(&'s [(VarId, i64)]),
-    Writes(&'s [(VarId, i64)]),
+    Log(&'static [(VarId, i64)]),
+    Writes(&'static [(VarId, i64)]),
     /// Each of so many variables is written, the first first, with its number.
     Numbers(u32),
     /// So many variables are in the log, as many are written, and this is the last of those.
     Ends(usize, (VarId, i64)),
     Total(u64),
     /// The log is taken.
-    TakeLog(&'s [(VarId, i64)]),
+    TakeLog(&'static [(VarId, i64)]),
 }
 
+/// The text of a file, and the steps of an attempt of its first transaction.
+pub(crate) type Row = (&'static str, &'static [Step]);
+
 fn advances(attempt: &mut Attempt<'_>, answer: Next, entered: u64) -> bool {
-    let next = attempt.advance();
-    next == answer && attempt.steps() == entered
+    attempt.advance() == answer && attempt.steps() == entered
 }
 
 fn enters(attempt: &mut Attempt<'_>, entered: u64) -> bool {
@@ -88,27 +88,26 @@ fn gives_log(attempt: &mut Attempt<'_>, log: &[(VarId, i64)]) -> bool {
 }
 
 /// Whether the step is answered so.
-fn takes(attempt: &mut Attempt<'_>, step: Step<'_>) -> bool {
+fn takes(attempt: &mut Attempt<'_>, step: &Step) -> bool {
     match step {
-        Step::Advance(answer, entered) => advances(attempt, answer, entered),
-        Step::Answer(answer) => attempt.advance() == answer,
-        Step::Enter(entered) => enters(attempt, entered),
-        Step::Told(x, entered, v) => is_told(attempt, x, entered, v),
-        Step::Sixes(count) => is_told_sixes(attempt, count),
-        Step::Outcome(how) => attempt.outcome() == how,
-        Step::Log(log) => attempt.log() == log,
-        Step::Writes(writes) => attempt.writes() == writes,
-        Step::Numbers(count) => are_numbers(attempt.writes(), count),
-        Step::Ends(count, last) => ends_with(attempt, count, last),
-        Step::Total(total) => attempt.total() == total,
+        Step::Advance(answer, entered) => advances(attempt, *answer, *entered),
+        Step::Enter(entered) => enters(attempt, *entered),
+        Step::Told(x, entered, v) => is_told(attempt, *x, *entered, *v),
+        Step::Sixes(count) => is_told_sixes(attempt, *count),
+        Step::Outcome(how) => attempt.outcome() == *how,
+        Step::Log(log) => attempt.log() == *log,
+        Step::Writes(writes) => attempt.writes() == *writes,
+        Step::Numbers(count) => are_numbers(attempt.writes(), *count),
+        Step::Ends(count, last) => ends_with(attempt, *count, *last),
+        Step::Total(total) => attempt.total() == *total,
         Step::TakeLog(log) => gives_log(attempt, log),
     }
 }
 
 /// The first of these steps that is not answered so, `None` where all are.
-pub(crate) fn first_wrong(attempt: &mut Attempt<'_>, steps: &[Step<'_>]) -> Option<usize> {
+pub(crate) fn first_wrong_step(attempt: &mut Attempt<'_>, steps: &[Step]) -> Option<usize> {
     for place in 0..steps.len() {
-        if !takes(attempt, steps[place]) {
+        if !takes(attempt, &steps[place]) {
             return Some(place);
         }
     }
@@ -116,36 +115,55 @@ pub(crate) fn first_wrong(attempt: &mut Attempt<'_>, steps: &[Step<'_>]) -> Opti
 }
 
 /// So it is of an attempt of the catalogue's first transaction.
-fn first_wrong_of(alloc: Global, catalogue: &Catalogue, steps: &[Step<'_>]) -> Option<usize> {
+fn first_wrong_of(alloc: Global, catalogue: &Catalogue, steps: &[Step]) -> Option<usize> {
     if !catalogue.is_callable(TxId(0), &[]) {
         return Some(0);
     }
     let mut attempt = Attempt::new(alloc, catalogue, TxId(0), &[]);
-    first_wrong(&mut attempt, steps)
+    first_wrong_step(&mut attempt, steps)
 }
 
 /// So it is of the text's first transaction.
-pub(crate) fn first_wrong_in(alloc: Global, text: &str, steps: &[Step<'_>]) -> Option<usize> {
+pub(crate) fn first_wrong_in(alloc: Global, text: &str, steps: &[Step]) -> Option<usize> {
     match catalogue(alloc, text) {
         Some(catalogue) => first_wrong_of(alloc, &catalogue, steps),
         None => Some(0),
     }
 }
 
-/// An attempt of the text's first transaction goes by these steps.
-pub(crate) fn plays(rt: &(impl Abort + Eprint), alloc: Global, text: &str, steps: &[Step<'_>]) {
-    assert_eq!(rt; first_wrong_in(alloc, text, steps), None, "of {text}");
+/// The first row whose attempt does not go so, and its first step that does not.
+pub(crate) fn first_wrong_row(alloc: Global, rows: &[Row]) -> Option<(usize, usize)> {
+    for place in 0..rows.len() {
+        let (text, steps) = rows[place];
+        if let Some(step) = first_wrong_in(alloc, text, steps) {
+            return Some((place, step));
+        }
+    }
+    None
 }
 
-/// So it is of the text that has each part so many times.
-pub(crate) fn plays_repeated(
-    rt: &(impl Abort + Eprint),
-    alloc: Global,
-    parts: &[(u32, &str)],
-    steps: &[Step<'_>],
-) {
-    match repeated(alloc, parts) {
-        Ok(text) => plays(rt, alloc, text.as_str(), steps),
-        Err(_) => panic!(rt; "no text"),
+/// It is so of the rows of each file by itself: what a table takes to prove grows with the square of its length.
+#[test]
+fn attempts_go_by_their_steps(rt: HostRuntime) {
+    let alloc = rt.alloc();
+    let found = [
+        ("one attempt", one::first_wrong(alloc)),
+        ("nodes of expressions", steps::first_wrong_operator(alloc)),
+        ("nodes of conditions", steps::first_wrong_condition(alloc)),
+        ("nodes of statements", steps::first_wrong_statement(alloc)),
+        ("branches", branches::first_wrong(alloc)),
+        ("attempts that begin anew", again::first_wrong(alloc)),
+        ("cells", cells::first_wrong(alloc)),
+        ("cells that are written", cells::first_wrong_of_own(alloc)),
+        ("folds of cells", cells::first_wrong_fold(alloc)),
+        ("the deepest programs", deep::first_wrong(alloc)),
+        ("standing conditions", standing::first_wrong(alloc)),
+        (
+            "conditions that are tested",
+            standing::first_wrong_tested(alloc),
+        ),
+    ];
+    for (of, wrong) in found {
+        assert_eq!(rt; wrong, None, "{of}");
     }
 }
