@@ -1,55 +1,29 @@
 //! Books at the sizes that there may be, with ample memory: all 256 variables written by one task,
-//! and all 65,536 tasks.
+//! and all 65,536 tasks, in one chapter after another.
 
+use crate::chapters::{FAR_ONES, ROOM_AGAIN};
 use crate::looks::{Look, Said};
-use crate::rows::{Step, What, expect};
-use crate::texts::ALL_TASKS;
+use crate::rows::{Row, Step, What, first_wrong_in, first_wrong_row};
+use crate::texts::{ALL_TASKS, FAR_APART, FAR_APART_WIDE, ONE};
 use book::{Finish, Serial};
-use std::alloc::{AllocError, Global};
-use std::process::Abort;
-use txn::{TaskId, VarId};
+use std::alloc::AllocError;
+use std::fmt::Write;
+use txn::{TaskId, TxId, VarId};
 
-/// So many variables, all 0.
-fn put_variables(alloc: Global, text: &mut String, variables: u32) -> Result<(), AllocError> {
-    for i in 0..variables {
-        text.push_str(format!(in alloc; "(var v{i} 0)")?.as_str())?;
+/// 256 variables, all 0, and a transaction that adds 1 to each of them and runs twice.
+fn put_all(text: &mut String) -> Result<(), AllocError> {
+    for i in 0..256u32 {
+        write!(text, "(var v{i} 0)")?;
     }
-    Ok(())
-}
-
-/// One transaction that adds 1 to each of them, and so many runs of it.
-fn put_all(alloc: Global, text: &mut String, variables: u32, runs: u32) -> Result<(), AllocError> {
-    text.push_str("(tx all (seq")?;
-    for i in 0..variables {
-        text.push_str(format!(in alloc; " (set v{i} (add v{i} 1))")?.as_str())?;
+    write!(text, "(tx all (seq")?;
+    for i in 0..256u32 {
+        write!(text, " (set v{i} (add v{i} 1))")?;
     }
-    text.push_str(format!(in alloc; ") v0)(run all {runs})")?.as_str())
-}
-
-/// One transaction that adds 1 to each of so many variables, all 0, and so many runs of it.
-fn adding_to_all(alloc: Global, variables: u32, runs: u32) -> Result<String, AllocError> {
-    let mut text = String::new(alloc);
-    put_variables(alloc, &mut text, variables)?;
-    put_all(alloc, &mut text, variables, runs)?;
-    Ok(text)
-}
-
-/// A book of that goes by these steps.
-fn expect_on_all(
-    rt: &(impl Abort + Eprint),
-    alloc: Global,
-    variables: u32,
-    runs: u32,
-    what: &What,
-) {
-    match adding_to_all(alloc, variables, runs) {
-        Ok(text) => expect(rt, alloc, text.as_str(), None, what),
-        Err(_) => panic!(rt; "no text"),
-    }
+    write!(text, ") v0)(run all 2)")
 }
 
 /// Both tasks commit, one by a turn and one by an attempt that read all variables.
-const COMMITS_ALL: &[Step] = &[
+const COMMITS_ALL: &What = &What::Steps(&[
     Step::Takes(Some(TaskId(0))),
     Step::Takes(Some(TaskId(1))),
     Step::Turns(TaskId(0), Serial::Committed(1)),
@@ -57,25 +31,14 @@ const COMMITS_ALL: &[Step] = &[
     Step::Shows(Look::Present(VarId(255), Some((2, 2)))),
     Step::Shows(Look::Present(VarId(256), None)),
     Step::Says(Said::Last(256, (2, 2))),
-];
+]);
 
 #[test]
 fn all_variables_are_written_and_committed(rt: HostRuntime) {
-    expect_on_all(&rt, rt.alloc(), 256, 2, &What::Steps(COMMITS_ALL));
-}
-
-/// The task is done, and so it can't be given up.
-const COMMITS_ONE: &[Step] = &[
-    Step::Takes(Some(TaskId(0))),
-    Step::Turns(TaskId(0), Serial::Committed(1)),
-    Step::GivesUp(TaskId(0), false),
-    Step::Says(Said::Entered(&[TaskId(0)])),
-    Step::Says(Said::Memory(&[])),
-];
-
-#[test]
-fn a_task_that_is_done_is_not_given_up(rt: HostRuntime) {
-    expect_on_all(&rt, rt.alloc(), 20, 1, &What::Steps(COMMITS_ONE));
+    let mut text = String::new(rt.alloc());
+    let is_put = put_all(&mut text).is_ok();
+    let wrong = first_wrong_in(rt.alloc(), text.as_str(), None, COMMITS_ALL);
+    assert!(rt; is_put && wrong.is_none());
 }
 
 /// Each of the tasks commits, and the report has an entry for each.
@@ -87,7 +50,61 @@ const RUNS_ALL: &[Step] = &[
     Step::Says(Said::Memory(&[])),
 ];
 
+/// There is room for all tasks that there may be.
+const MANY_MORE: &[Step] = &[
+    Step::Fills(TxId(0), 65536),
+    Step::Submits(TxId(0), None),
+    Step::Shows(Look::Tasks(65536)),
+];
+
+const OF_ONE_CHAPTER: &[Row] = &[
+    (
+        "all tasks run and are reported",
+        ALL_TASKS,
+        None,
+        What::Steps(RUNS_ALL),
+    ),
+    (
+        "tasks are submitted up to the limit",
+        ONE,
+        Some(65535),
+        What::Steps(MANY_MORE),
+    ),
+];
+
 #[test]
-fn all_tasks_run_and_are_reported(rt: HostRuntime) {
-    expect(&rt, rt.alloc(), ALL_TASKS, None, &What::Steps(RUNS_ALL));
+fn all_tasks_have_room(rt: HostRuntime) {
+    assert_eq!(rt; first_wrong_row(rt.alloc(), OF_ONE_CHAPTER), None);
+}
+
+const OF_CHAPTERS: &[Row] = &[
+    (
+        "a full book has room in its next chapter",
+        ALL_TASKS,
+        None,
+        What::Steps(ROOM_AGAIN),
+    ),
+    (
+        "those far apart come over",
+        FAR_APART,
+        None,
+        What::Steps(FAR_ONES),
+    ),
+];
+
+#[test]
+fn full_books_begin_chapters(rt: HostRuntime) {
+    assert_eq!(rt; first_wrong_row(rt.alloc(), OF_CHAPTERS), None);
+}
+
+const OF_CELLS: &[Row] = &[(
+    "those far apart come over where there are cells",
+    FAR_APART_WIDE,
+    None,
+    What::Steps(FAR_ONES),
+)];
+
+#[test]
+fn full_books_of_cells_begin_chapters(rt: HostRuntime) {
+    assert_eq!(rt; first_wrong_row(rt.alloc(), OF_CELLS), None);
 }

@@ -1,9 +1,10 @@
 //! The arguments of a book's tasks.
 
 use crate::looks::{Look, Said};
-use crate::rows::{Step, What, expect};
+use crate::rows::{Row, Step, What, first_wrong_row};
 use crate::texts::GIVING;
 use book::{Serial, Standing};
+use std::alloc::Global;
 use txn::{Outcome, TaskId, TxId, VarId};
 
 /// Each task has its own arguments, and its turn goes by them, in each chapter that it comes to.
@@ -42,11 +43,6 @@ const KEEP_THEIRS: &[Step] = &[
     Step::Says(Said::Entered(&[TaskId(1), TaskId(0), TaskId(2), TaskId(3)])),
 ];
 
-#[test]
-fn each_task_keeps_its_arguments(rt: HostRuntime) {
-    expect(&rt, rt.alloc(), GIVING, Some(2), &What::Steps(KEEP_THEIRS));
-}
-
 /// A call that is submitted stands in the book's catalogue, and there alone.
 const SUBMITTED: &[Step] = &[
     Step::Shows(Look::IsFor(GIVING, true, true)),
@@ -60,7 +56,21 @@ const SUBMITTED: &[Step] = &[
     Step::Calls(TxId(1), &[1], None),
 ];
 
-#[test]
-fn a_submitted_call_stands_in_the_catalogue(rt: HostRuntime) {
-    expect(&rt, rt.alloc(), GIVING, Some(1), &What::Steps(SUBMITTED));
+const ROWS: &[Row] = &[
+    (
+        "each task keeps its arguments",
+        GIVING,
+        Some(2),
+        What::Steps(KEEP_THEIRS),
+    ),
+    (
+        "a submitted call stands in the catalogue",
+        GIVING,
+        Some(1),
+        What::Steps(SUBMITTED),
+    ),
+];
+
+pub(crate) fn first_wrong(alloc: Global) -> Option<(usize, usize)> {
+    first_wrong_row(alloc, ROWS)
 }

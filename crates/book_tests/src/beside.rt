@@ -3,12 +3,11 @@
 ghost use Rattle.std.specs.Prelude.{◌≡◌, ◌<◌, length, All};
 
 use crate::attempts::ends;
-use crate::rows::{What, expect};
+use crate::rows::{Row, What, first_wrong_row};
 use crate::texts::TWO;
 use book::{Book, Finish};
 use cells::{Cells, Pass, Read};
 use std::alloc::Global;
-use std::process::Abort;
 use txn::{Catalogue, TaskId, VarId};
 
 const X: VarId = VarId(0);
@@ -105,41 +104,33 @@ fn meets(book: &mut Book<'_>, cells: &Cells, pass: &mut Pass) -> bool
     !pass.is_open()
 }
 
-/// The last of the passes of these cells.
-fn popped(rt: &impl Abort, passes: &mut Vec<Pass>, cells: &Cells) -> Pass
-    requires own { All (λ p. p.cells ≡ cells.now) passes.old.items }
-    ensures own { result.cells ≡ cells.now }
-    ensures others { All (λ p. p.cells ≡ cells.now) passes.new.items }
-{
-    match passes.pop() {
-        Some(pass) => pass,
-        None => panic!(rt; "no pass"),
-    }
-}
-
-/// A pass meets the book, and then two passes are read beside it.
+/// Whether a pass meets the book, and then two passes are read beside it.
 pub(crate) fn goes_beside(
-    rt: &impl Abort,
     alloc: Global,
     book: &mut Book<'_>,
     catalogue: &Catalogue,
     cells: &Cells,
     passes: &mut Vec<Pass>,
-)
+) -> bool
     requires own { All (λ p. p.cells ≡ cells.now) passes.old.items }
     requires book { book.old.cells ≡ cells.now }
     requires variables { cells.now.variables ≡ length catalogue.now.initial }
 {
-    let mut met = popped(rt, passes, cells);
-    assert!(rt; meets(book, cells, &mut met));
-    assert!(rt; catalogue.initial().len() == 1);
-    let mut first = popped(rt, passes, cells);
-    let mut second = popped(rt, passes, cells);
-    assert!(rt; two_attempts(alloc, book, catalogue, cells, &mut first, &mut second));
-    assert!(rt; one_more_attempt(alloc, book, catalogue, cells, &mut second));
+    let (Some(mut met), Some(mut first), Some(mut second)) = (
+        passes.pop(),
+        passes.pop(),
+        passes.pop(),
+    ) else {
+        return false;
+    };
+    catalogue.initial().len() == 1
+        && meets(book, cells, &mut met)
+        && two_attempts(alloc, book, catalogue, cells, &mut first, &mut second)
+        && one_more_attempt(alloc, book, catalogue, cells, &mut second)
 }
 
-#[test]
-fn a_finish_on_old_values_is_stale(rt: HostRuntime) {
-    expect(&rt, rt.alloc(), TWO, None, &What::Beside);
+const ROWS: &[Row] = &[("a finish on old values is stale", TWO, None, What::Beside)];
+
+pub(crate) fn first_wrong(alloc: Global) -> Option<(usize, usize)> {
+    first_wrong_row(alloc, ROWS)
 }

@@ -1,9 +1,10 @@
 //! A book in chapters.
 
 use crate::looks::{Look, Said};
-use crate::rows::{Step, What, expect};
-use crate::texts::{ALL_TASKS, FAR_APART, FAR_APART_WIDE, HOLDING, MANY_CELLS, MIXED};
+use crate::rows::{Row, Step, What, first_wrong_row};
+use crate::texts::{HOLDING, MANY_CELLS, MIXED};
 use book::{Serial, Standing};
+use std::alloc::Global;
 use txn::{Outcome, TaskId, TxId, VarId};
 
 /// One task waits while three chapters end, one ends, and one runs while a chapter ends.
@@ -47,11 +48,6 @@ const COMES_OVER: &[Step] = &[
     Step::Shows(Look::EnteredInAll(5)),
 ];
 
-#[test]
-fn a_parked_task_comes_over(rt: HostRuntime) {
-    expect(&rt, rt.alloc(), HOLDING, Some(1), &What::Steps(COMES_OVER));
-}
-
 /// Those that wait are moved down, in their order, and wait for what they waited for.
 const MOVED_DOWN: &[Step] = &[
     Step::Drains(7),
@@ -78,13 +74,8 @@ const MOVED_DOWN: &[Step] = &[
     Step::Shows(Look::Stand([0, 0, 0, 4, 0])),
 ];
 
-#[test]
-fn those_that_wait_are_moved_down(rt: HostRuntime) {
-    expect(&rt, rt.alloc(), MIXED, None, &What::Steps(MOVED_DOWN));
-}
-
 /// As many tasks as there may be end with their chapter, and leave all their room.
-const ROOM_AGAIN: &[Step] = &[
+pub(crate) const ROOM_AGAIN: &[Step] = &[
     Step::Submits(TxId(0), None),
     Step::Drains(0),
     Step::BeginsChapter,
@@ -96,13 +87,8 @@ const ROOM_AGAIN: &[Step] = &[
     Step::Says(Said::X((0, 65541, 0), 1, (1, 65542, 1))),
 ];
 
-#[test]
-fn a_full_book_has_room_in_its_next_chapter(rt: HostRuntime) {
-    expect(&rt, rt.alloc(), ALL_TASKS, None, &What::Steps(ROOM_AGAIN));
-}
-
 /// Those that wait in the first, the 64th, the 65th and the last place come over, and nothing else does.
-const FAR_ONES: &[Step] = &[
+pub(crate) const FAR_ONES: &[Step] = &[
     Step::Drains(65536),
     Step::Shows(Look::Stand([0, 0, 4, 65532, 0])),
     Step::Says(Said::Parked(&[
@@ -146,22 +132,6 @@ const FAR_ONES: &[Step] = &[
     Step::Shows(Look::Spare(65536)),
 ];
 
-#[test]
-fn those_far_apart_come_over(rt: HostRuntime) {
-    expect(&rt, rt.alloc(), FAR_APART, None, &What::Steps(FAR_ONES));
-}
-
-#[test]
-fn those_far_apart_come_over_where_there_are_cells(rt: HostRuntime) {
-    expect(
-        &rt,
-        rt.alloc(),
-        FAR_APART_WIDE,
-        None,
-        &What::Steps(FAR_ONES),
-    );
-}
-
 /// The higher of two tasks is parked first. Both come over, and each is woken by its own cell.
 const HIGHER_FIRST: &[Step] = &[
     Step::TakesFrom(5, Some(TaskId(5))),
@@ -182,13 +152,27 @@ const HIGHER_FIRST: &[Step] = &[
     Step::Says(Said::Entered(&[TaskId(1), TaskId(0)])),
 ];
 
-#[test]
-fn those_that_wait_for_cells_come_over(rt: HostRuntime) {
-    expect(
-        &rt,
-        rt.alloc(),
+const ROWS: &[Row] = &[
+    (
+        "a parked task comes over",
+        HOLDING,
+        Some(1),
+        What::Steps(COMES_OVER),
+    ),
+    (
+        "those that wait are moved down",
+        MIXED,
+        None,
+        What::Steps(MOVED_DOWN),
+    ),
+    (
+        "those that wait for cells come over",
         MANY_CELLS,
         None,
-        &What::Steps(HIGHER_FIRST),
-    );
+        What::Steps(HIGHER_FIRST),
+    ),
+];
+
+pub(crate) fn first_wrong(alloc: Global) -> Option<(usize, usize)> {
+    first_wrong_row(alloc, ROWS)
 }

@@ -1,12 +1,11 @@
 //! One attempt, which is lent to a book for one task after another.
 
 use crate::attempts::{ends_anew, has};
-use crate::rows::{What, expect};
+use crate::rows::{Row, What, first_wrong_row};
 use crate::texts::WAITING;
 use attempt::Attempt;
 use book::{Book, Finish};
 use std::alloc::Global;
-use std::process::Abort;
 use txn::{Catalogue, TaskId, TxId, VarId};
 
 /// A task that an attempt is lent for.
@@ -23,7 +22,7 @@ pub(crate) struct Lent {
 
 /// The task that waits is parked, and the attempt keeps its log to its next restart. The task that it
 /// was waiting for commits, and then the task that waited does.
-const ROWS: &[Lent] = &[
+const LENT: &[Lent] = &[
     Lent {
         taken: &[TaskId(0), TaskId(1), TaskId(2)],
         task: TaskId(0),
@@ -78,25 +77,41 @@ fn is_lent<'c>(
         && attempt.writes() == row.writes
 }
 
-/// There is one attempt for all rows.
-pub(crate) fn lends(
-    rt: &(impl Abort + Eprint),
+/// The first of them for which it is not, `None` where there is none. There is one attempt for all.
+fn first_wrong<'c>(
+    book: &mut Book<'_>,
+    catalogue: &'c Catalogue,
+    attempt: &mut Attempt<'c>,
+    rows: &[Lent],
+) -> Option<usize> {
+    for place in 0..rows.len() {
+        if !is_lent(book, catalogue, attempt, &rows[place]) {
+            return Some(place);
+        }
+    }
+    None
+}
+
+pub(crate) fn first_not_lent(
     alloc: Global,
     book: &mut Book<'_>,
     catalogue: &Catalogue,
     rows: &[Lent],
-) {
-    assert!(rt; catalogue.is_callable(TxId(0), &[]));
-    let mut attempt = Attempt::new(alloc, catalogue, TxId(0), &[]);
-    for place in 0..rows.len() {
-        assert!(rt;
-            is_lent(book, catalogue, &mut attempt, &rows[place]),
-            "row {place}"
-        );
+) -> Option<usize> {
+    if !catalogue.is_callable(TxId(0), &[]) {
+        return Some(0);
     }
+    let mut attempt = Attempt::new(alloc, catalogue, TxId(0), &[]);
+    first_wrong(book, catalogue, &mut attempt, rows)
 }
 
-#[test]
-fn an_attempt_is_lent_again_and_again(rt: HostRuntime) {
-    expect(&rt, rt.alloc(), WAITING, None, &What::Lends(ROWS));
+const ROWS: &[Row] = &[(
+    "an attempt is lent again and again",
+    WAITING,
+    None,
+    What::Lends(LENT),
+)];
+
+pub(crate) fn first_wrong_lent(alloc: Global) -> Option<(usize, usize)> {
+    first_wrong_row(alloc, ROWS)
 }

@@ -7,7 +7,7 @@ use book_storage::{PackedEntry, RunReport, entries_of};
 use cells::Cells;
 use std::alloc::Global;
 use std::mem::size_of;
-use txn::{AlwaysId, Entry, Fault, Memory, Outcome, Report, TaskId, TxId};
+use txn::{AlwaysId, Catalogue, Entry, Fault, Memory, Outcome, Report, TaskId, TxId};
 use txn_text::read_file;
 
 /// The last task of the most that there are, of the last transaction of the most.
@@ -37,26 +37,24 @@ fn is_told(outcome: Outcome) -> bool {
     PackedEntry::new(ends(outcome)).entry() == ends(outcome)
 }
 
-#[test]
-fn a_line_has_16_bytes(rt: HostRuntime) {
-    assert_eq!(rt; size_of::<PackedEntry>(), 16);
-}
+const OUTCOMES: &[Outcome] = &[
+    Outcome::Returned(i64::MAX),
+    Outcome::Thrown(Fault::User(-7)),
+    Outcome::Thrown(Fault::Overflow),
+    Outcome::Thrown(Fault::DivideByZero),
+    Outcome::Thrown(Fault::Outside),
+    Outcome::Thrown(Fault::Broken(AlwaysId(63))),
+    Outcome::Thrown(Fault::Broken(AlwaysId(u32::MAX))),
+    Outcome::Retries,
+];
 
 #[test]
 fn a_line_tells_each_outcome(rt: HostRuntime) {
-    assert!(rt; is_told(Outcome::Returned(i64::MAX)));
-    assert!(rt; is_told(Outcome::Thrown(Fault::User(-7))));
-    assert!(rt; is_told(Outcome::Thrown(Fault::Overflow)));
-    assert!(rt; is_told(Outcome::Thrown(Fault::DivideByZero)));
-    assert!(rt; is_told(Outcome::Thrown(Fault::Outside)));
-    assert!(rt; is_told(Outcome::Thrown(Fault::Broken(AlwaysId(63)))));
-    assert!(rt; is_told(Outcome::Thrown(Fault::Broken(AlwaysId(u32::MAX)))));
-    assert!(rt; is_told(Outcome::Retries));
-}
-
-#[test]
-fn a_line_tells_the_last_entry_of_the_most(rt: HostRuntime) {
-    assert_eq!(rt; PackedEntry::new(LAST).entry(), LAST);
+    for outcome in OUTCOMES {
+        assert!(rt; is_told(*outcome));
+    }
+    let is_last = PackedEntry::new(LAST).entry() == LAST;
+    assert!(rt; is_last && size_of::<PackedEntry>() == 16);
 }
 
 /// A report of two entries and of no variable, with its journal in lines.
@@ -76,47 +74,65 @@ fn in_lines(alloc: Global) -> Result<RunReport, Memory> {
     Ok(RunReport { journal, rest })
 }
 
-#[test]
-fn lines_become_their_entries(rt: HostRuntime) {
-    let alloc = rt.alloc();
-    let Ok(run) = in_lines(alloc) else {
-        panic!(rt; "no lines")
-    };
+/// Whether the lines become their entries, and the report has these.
+fn become_entries(alloc: Global, run: RunReport) -> bool {
     let Ok(entries) = entries_of(alloc, &run.journal) else {
-        panic!(rt; "no entries")
+        return false;
     };
-    assert!(rt; entries.as_slice() == [ends(Outcome::Returned(5)), LAST].as_slice());
-    let Ok(report) = run.report(alloc) else {
-        panic!(rt; "no report")
-    };
-    assert!(rt; report.entries == entries);
-    assert_eq!(rt; (report.base, report.now), (1, 65_536));
+    let are_so = entries.as_slice() == [ends(Outcome::Returned(5)), LAST].as_slice();
+    match run.report(alloc) {
+        Ok(report) => are_so
+            && report.entries == entries
+            && (report.base, report.now) == (1, 65_536),
+        Err(_) => false,
+    }
 }
 
-/// What a book tells, and what it leaves.
-fn told_and_left(alloc: Global, text: &str) -> Result<(Report, RunReport), Memory> {
-    let Ok(catalogue) = read_file(alloc, text.as_bytes()) else {
-        return Err(Memory);
-    };
-    let (cells, publisher) = Cells::unread(alloc, catalogue.initial())?;
-    let mut book = Book::open(alloc, &catalogue, &cells, publisher)?;
-    book.drain(alloc, 2);
-    Ok((book.report(alloc)?, book.into_run_report(alloc)?))
+#[test]
+fn lines_become_their_entries(rt: HostRuntime) {
+    match in_lines(rt.alloc()) {
+        Ok(run) => assert!(rt; become_entries(rt.alloc(), run)),
+        Err(_) => panic!(rt; "no lines"),
+    }
 }
+
+/// Whether what is left of a book becomes what it told.
+fn is_told_again(alloc: Global, told: &Report, left: RunReport) -> bool {
+    let are_few = left.journal.len() == 1 && left.rest.entries.is_empty();
+    match left.report(alloc) {
+        Ok(report) => are_few && report == *told && (told.base, told.now) == (2, 3),
+        Err(_) => false,
+    }
+}
+
+/// Whether a book leaves what it tells.
+fn leaves_what_it_tells(alloc: Global, mut book: Book<'_>) -> bool {
+    book.drain(alloc, 2);
+    let told = book.report(alloc);
+    match (told, book.into_run_report(alloc)) {
+        (Ok(told), Ok(left)) => is_told_again(alloc, &told, left),
+        _ => false,
+    }
+}
+
+/// So it is of a book of the catalogue.
+fn is_left(alloc: Global, catalogue: &Catalogue) -> bool {
+    let Ok((cells, publisher)) = Cells::unread(alloc, catalogue.initial()) else {
+        return false;
+    };
+    match Book::open(alloc, catalogue, &cells, publisher) {
+        Ok(book) => leaves_what_it_tells(alloc, book),
+        Err(_) => false,
+    }
+}
+
+const FOUR: &str =
+    "(var x 5)(tx up (set x (add x 1)) x)(tx no (throw 7) 0)(tx wait (retry) 0)(run up 2)(run no 1)(run wait 1)";
 
 #[test]
 fn a_book_leaves_what_it_tells(rt: HostRuntime) {
-    let alloc = rt.alloc();
-    let text =
-        "(var x 5)(tx up (set x (add x 1)) x)(tx no (throw 7) 0)(tx wait (retry) 0)(run up 2)(run no 1)(run wait 1)";
-    let Ok((told, left)) = told_and_left(alloc, text) else {
-        panic!(rt; "no report")
-    };
-    assert_eq!(rt; (told.base, told.now), (2, 3));
-    assert_eq!(rt; left.journal.len(), 1);
-    assert_eq!(rt; left.rest.entries.len(), 0);
-    let Ok(report) = left.report(alloc) else {
-        panic!(rt; "no entries")
-    };
-    assert!(rt; report == told);
+    match read_file(rt.alloc(), FOUR.as_bytes()) {
+        Ok(catalogue) => assert!(rt; is_left(rt.alloc(), &catalogue)),
+        Err(_) => panic!(rt; "no catalogue"),
+    }
 }

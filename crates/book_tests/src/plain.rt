@@ -1,9 +1,10 @@
 //! Turns by plain evaluation.
 
 use crate::looks::{Look, Said};
-use crate::rows::{Step, What, expect};
+use crate::rows::{Row, Step, What, first_wrong_row};
 use crate::texts::{BANK, STANDING};
 use book::{NotPlain, Serial, Standing};
+use std::alloc::Global;
 use txn::{AlwaysId, Fault, Outcome, TaskId, VarId};
 
 /// Each of these is running. One that retries has no plain turn, and nothing changes.
@@ -52,11 +53,6 @@ const PAID: &[Step] = &[
     Step::Shows(Look::Stand([0, 0, 0, 6, 0])),
 ];
 
-#[test]
-fn what_a_plain_turn_writes_is_committed(rt: HostRuntime) {
-    expect(&rt, rt.alloc(), BANK, None, &What::Steps(PAID));
-}
-
 /// Where no table is declared it is as where one is.
 const WITHOUT_TABLES: &[Step] = &[
     Step::TurnsPlainly(TaskId(0), Err(NotPlain::NotRunning)),
@@ -74,17 +70,6 @@ const WITHOUT_TABLES: &[Step] = &[
     Step::TurnsPlainly(TaskId(0), Ok((Outcome::Returned(6), 3))),
 ];
 
-#[test]
-fn without_tables_turns_are_plain_too(rt: HostRuntime) {
-    expect(
-        &rt,
-        rt.alloc(),
-        STANDING,
-        None,
-        &What::Steps(WITHOUT_TABLES),
-    );
-}
-
 /// A new chapter runs the same steps.
 const IN_CHAPTERS: &[Step] = &[
     Step::Claims(TaskId(1), true),
@@ -98,7 +83,27 @@ const IN_CHAPTERS: &[Step] = &[
     Step::Shows(Look::Present(VarId(0), Some((6, 1)))),
 ];
 
-#[test]
-fn a_plain_turn_of_a_new_chapter_is_of_its_task(rt: HostRuntime) {
-    expect(&rt, rt.alloc(), STANDING, None, &What::Steps(IN_CHAPTERS));
+const ROWS: &[Row] = &[
+    (
+        "what a plain turn writes is committed",
+        BANK,
+        None,
+        What::Steps(PAID),
+    ),
+    (
+        "without tables turns are plain too",
+        STANDING,
+        None,
+        What::Steps(WITHOUT_TABLES),
+    ),
+    (
+        "a plain turn of a new chapter is of its task",
+        STANDING,
+        None,
+        What::Steps(IN_CHAPTERS),
+    ),
+];
+
+pub(crate) fn first_wrong(alloc: Global) -> Option<(usize, usize)> {
+    first_wrong_row(alloc, ROWS)
 }

@@ -1,9 +1,10 @@
 //! What a book tells of its tasks, and a task of one's own.
 
 use crate::looks::{Look, Said};
-use crate::rows::{Step, What, expect};
-use crate::texts::{TWO, WAITING, WAITING_TWICE};
+use crate::rows::{Row, Step, What, first_wrong_row};
+use crate::texts::{ONE, TWO, WAITING, WAITING_TWICE};
 use book::{Serial, Standing};
+use std::alloc::Global;
 use txn::{Outcome, TaskId, TxId};
 
 /// Two increments and one that is submitted, which is claimed and has its turn first. Of an entry before
@@ -29,11 +30,6 @@ const TELLS: &[Step] = &[
     Step::Shows(Look::Task(TaskId(0), Standing::Done(2), None)),
 ];
 
-#[test]
-fn a_task_of_ones_own_is_told(rt: HostRuntime) {
-    expect(&rt, rt.alloc(), TWO, Some(1), &What::Steps(TELLS));
-}
-
 /// A parked task is withdrawn once. What would have woken it does not, and it is listed as given up.
 const WITHDRAWS: &[Step] = &[
     Step::Takes(Some(TaskId(0))),
@@ -54,17 +50,6 @@ const WITHDRAWS: &[Step] = &[
     Step::Says(Said::Parked(&[])),
 ];
 
-#[test]
-fn a_withdrawn_task_is_not_woken(rt: HostRuntime) {
-    expect(
-        &rt,
-        rt.alloc(),
-        WAITING_TWICE,
-        Some(1),
-        &What::Steps(WITHDRAWS),
-    );
-}
-
 /// A commit wakes what waits, and each is counted where it stands.
 const COUNTS: &[Step] = &[
     Step::Shows(Look::Stand([4, 0, 0, 0, 0])),
@@ -83,7 +68,42 @@ const COUNTS: &[Step] = &[
     Step::Shows(Look::Tasks(2)),
 ];
 
-#[test]
-fn tasks_are_counted_where_they_stand(rt: HostRuntime) {
-    expect(&rt, rt.alloc(), WAITING, None, &What::Steps(COUNTS));
+/// The task is done, and so it can't be given up.
+const COMMITS_ONE: &[Step] = &[
+    Step::Takes(Some(TaskId(0))),
+    Step::Turns(TaskId(0), Serial::Committed(1)),
+    Step::GivesUp(TaskId(0), false),
+    Step::Says(Said::Entered(&[TaskId(0)])),
+    Step::Says(Said::Memory(&[])),
+];
+
+const ROWS: &[Row] = &[
+    (
+        "a task of ones own is told",
+        TWO,
+        Some(1),
+        What::Steps(TELLS),
+    ),
+    (
+        "a withdrawn task is not woken",
+        WAITING_TWICE,
+        Some(1),
+        What::Steps(WITHDRAWS),
+    ),
+    (
+        "tasks are counted where they stand",
+        WAITING,
+        None,
+        What::Steps(COUNTS),
+    ),
+    (
+        "a task that is done is not given up",
+        ONE,
+        None,
+        What::Steps(COMMITS_ONE),
+    ),
+];
+
+pub(crate) fn first_wrong(alloc: Global) -> Option<(usize, usize)> {
+    first_wrong_row(alloc, ROWS)
 }

@@ -4,12 +4,12 @@ ghost use Rattle.std.specs.Prelude.{◌≡◌, ◌∷◌, [], length, All, IfOk}
 
 use crate::attempts::{ends, has};
 use crate::beside::goes_beside;
-use crate::lent::{Lent, lends};
+use crate::lent::{Lent, first_not_lent};
 use crate::looks::{Look, Said, says, shows};
+use crate::{arguments, beside, chapters, lent, plain, results, scripts, submitting};
 use book::{Book, Finish, NotPlain, Serial};
 use cells::{Cells, Pass, Publisher};
 use std::alloc::Global;
-use std::process::Abort;
 use txn::{Catalogue, Memory, Outcome, TaskId, TxId};
 use txn_text::read_file;
 
@@ -164,17 +164,19 @@ fn goes(alloc: Global, book: &mut Book<'_>, catalogue: &Catalogue, step: &Step) 
     }
 }
 
-/// The book goes by these steps.
-pub(crate) fn follows(
-    rt: &(impl Abort + Eprint),
+/// The first of these steps that does not go so, `None` where all do.
+pub(crate) fn first_wrong_step(
     alloc: Global,
     book: &mut Book<'_>,
     catalogue: &Catalogue,
     steps: &[Step],
-) {
+) -> Option<usize> {
     for place in 0..steps.len() {
-        assert!(rt; goes(alloc, book, catalogue, &steps[place]), "step {place}");
+        if !goes(alloc, book, catalogue, &steps[place]) {
+            return Some(place);
+        }
     }
+    None
 }
 
 /// What is done with a book that was just opened.
@@ -207,54 +209,114 @@ fn opened<'a>(
     }
 }
 
-/// That is done, and goes as it has to.
-fn does(
-    rt: &(impl Abort + Eprint),
+/// The first of what is done that does not go as it has to.
+fn first_wrong_of(
     alloc: Global,
     book: &mut Book<'_>,
     catalogue: &Catalogue,
     cells: &Cells,
     passes: &mut Vec<Pass>,
     what: &What,
-)
+) -> Option<usize>
     requires own { All (λ p. p.cells ≡ cells.now) passes.old.items }
     requires book { book.old.cells ≡ cells.now }
     requires variables { cells.now.variables ≡ length catalogue.now.initial }
 {
     match what {
-        What::Steps(steps) => follows(rt, alloc, book, catalogue, steps),
-        What::Lends(rows) => lends(rt, alloc, book, catalogue, rows),
-        What::Beside => goes_beside(rt, alloc, book, catalogue, cells, passes),
+        What::Steps(steps) => first_wrong_step(alloc, book, catalogue, steps),
+        What::Lends(rows) => first_not_lent(alloc, book, catalogue, rows),
+        What::Beside if goes_beside(alloc, book, catalogue, cells, passes) => None,
+        What::Beside => Some(0),
     }
 }
 
-fn over(
-    rt: &(impl Abort + Eprint),
+/// So it is of a book over these cells.
+fn first_wrong_over(
+    alloc: Global,
+    catalogue: &Catalogue,
+    cells: &Cells,
+    publisher: Publisher,
+    passes: &mut Vec<Pass>,
+    spare: Option<usize>,
+    what: &What,
+) -> Option<usize>
+    requires own { publisher.cells ≡ cells.now }
+    requires unused { publisher.history ≡ catalogue.now.initial ∷ [] }
+    requires passes { All (λ p. p.cells ≡ cells.now) passes.old.items }
+    requires variables { cells.now.variables ≡ length catalogue.now.initial }
+{
+    match opened(alloc, catalogue, cells, publisher, spare) {
+        Ok(mut book) => first_wrong_of(alloc, &mut book, catalogue, cells, passes, what),
+        Err(_) => Some(0),
+    }
+}
+
+/// So it is of a book of the catalogue.
+fn first_wrong(
     alloc: Global,
     catalogue: &Catalogue,
     spare: Option<usize>,
     what: &What,
-) {
-    let Ok((cells, publisher, mut passes)) = Cells::open(alloc, catalogue.initial(), 3) else {
-        panic!(rt; "no cells")
-    };
-    match opened(alloc, catalogue, &cells, publisher, spare) {
-        Ok(mut book) => does(rt, alloc, &mut book, catalogue, &cells, &mut passes, what),
-        Err(_) => panic!(rt; "no book"),
+) -> Option<usize> {
+    match Cells::open(alloc, catalogue.initial(), 3) {
+        Ok((cells, publisher, mut passes)) => {
+            first_wrong_over(
+                alloc,
+                catalogue,
+                &cells,
+                publisher,
+                &mut passes,
+                spare,
+                what,
+            )
+        }
+        Err(_) => Some(0),
     }
 }
 
-/// This is done with a book of the text's catalogue, which is opened with room for so many tasks more
-/// where that is said.
-pub(crate) fn expect(
-    rt: &(impl Abort + Eprint),
+/// So it is of a book of the text's catalogue, which is opened with room for so many tasks more where that is said.
+pub(crate) fn first_wrong_in(
     alloc: Global,
     text: &str,
     spare: Option<usize>,
     what: &What,
-) {
+) -> Option<usize> {
     match read_file(alloc, text.as_bytes()) {
-        Ok(catalogue) => over(rt, alloc, &catalogue, spare, what),
-        Err(_) => panic!(rt; "no catalogue"),
+        Ok(catalogue) => first_wrong(alloc, &catalogue, spare, what),
+        Err(_) => Some(0),
+    }
+}
+
+/// What it shows, the text of a file, how many tasks more there is room for where that is said, and what is done.
+pub(crate) type Row = (&'static str, &'static str, Option<usize>, What);
+
+/// The first row that does not go so, and its first step.
+pub(crate) fn first_wrong_row(alloc: Global, rows: &[Row]) -> Option<(usize, usize)> {
+    for place in 0..rows.len() {
+        let (_, text, spare, what) = &rows[place];
+        if let Some(step) = first_wrong_in(alloc, text, *spare, what) {
+            return Some((place, step));
+        }
+    }
+    None
+}
+
+/// It is so of the rows of each file by itself: what a table takes to prove grows with the square of its length.
+#[test]
+fn books_go_by_their_steps(rt: HostRuntime) {
+    let alloc = rt.alloc();
+    let found = [
+        ("arguments", arguments::first_wrong(alloc)),
+        ("beside", beside::first_wrong(alloc)),
+        ("chapters", chapters::first_wrong(alloc)),
+        ("lent", lent::first_wrong_lent(alloc)),
+        ("plain", plain::first_wrong(alloc)),
+        ("results", results::first_wrong(alloc)),
+        ("scripts", scripts::first_wrong(alloc)),
+        ("more scripts", scripts::first_wrong_of_more(alloc)),
+        ("submitting", submitting::first_wrong(alloc)),
+    ];
+    for (of, wrong) in found {
+        assert_eq!(rt; wrong, None, "{of}");
     }
 }

@@ -1,9 +1,10 @@
 //! Turns of the tasks of a book, worked out by hand.
 
 use crate::looks::{Look, Said};
-use crate::rows::{Step, What, expect};
+use crate::rows::{Row, Step, What, first_wrong_row};
 use crate::texts::{NONE_AT_8, ONE, STANDING, THREE, TWO, TWO_AND_ONE, WAITING, WAITING_TWICE};
 use book::{Finish, Serial};
+use std::alloc::Global;
 use txn::{Entry, Outcome, TaskId, TxId, VarId};
 
 /// Three increments, of which one is under way.
@@ -16,11 +17,6 @@ const DRAINS: &[Step] = &[
     Step::Says(Said::X((3, 8, 3), 0, (3, 8, 3))),
 ];
 
-#[test]
-fn a_drain_keeps_the_journal_short(rt: HostRuntime) {
-    expect(&rt, rt.alloc(), THREE, None, &What::Steps(DRAINS));
-}
-
 const TELLS_ENTRY: &[Step] = &[
     Step::Drains(0),
     Step::Says(Said::Entries(&[Entry {
@@ -30,11 +26,6 @@ const TELLS_ENTRY: &[Step] = &[
         outcome: Outcome::Returned(6),
     }])),
 ];
-
-#[test]
-fn a_report_tells_the_entry(rt: HostRuntime) {
-    expect(&rt, rt.alloc(), ONE, None, &What::Steps(TELLS_ENTRY));
-}
 
 const WAKES: &[Step] = &[
     Step::Takes(Some(TaskId(0))),
@@ -47,11 +38,6 @@ const WAKES: &[Step] = &[
     Step::Turns(TaskId(0), Serial::Committed(3)),
     Step::Turns(TaskId(0), Serial::NotRunning),
 ];
-
-#[test]
-fn a_commit_wakes_by_what_it_changes(rt: HostRuntime) {
-    expect(&rt, rt.alloc(), WAITING, None, &What::Steps(WAKES));
-}
 
 /// Three increments.
 const TAKES_FROM: &[Step] = &[
@@ -69,18 +55,6 @@ const TAKES_PAST_THE_LAST: &[Step] = &[
     Step::TakesFrom(usize::MAX, Some(TaskId(1))),
 ];
 
-#[test]
-fn a_task_is_taken_from_a_number_on(rt: HostRuntime) {
-    expect(&rt, rt.alloc(), THREE, None, &What::Steps(TAKES_FROM));
-    expect(
-        &rt,
-        rt.alloc(),
-        THREE,
-        None,
-        &What::Steps(TAKES_PAST_THE_LAST),
-    );
-}
-
 /// Task 0 waits, so it is not taken, whatever the number, until it is woken.
 const PASSES_OVER_THE_PARKED: &[Step] = &[
     Step::TakesFrom(0, Some(TaskId(0))),
@@ -94,17 +68,6 @@ const PASSES_OVER_THE_PARKED: &[Step] = &[
     Step::TakesFrom(2, Some(TaskId(0))),
 ];
 
-#[test]
-fn a_parked_task_is_not_taken_by_its_number(rt: HostRuntime) {
-    expect(
-        &rt,
-        rt.alloc(),
-        WAITING,
-        None,
-        &What::Steps(PASSES_OVER_THE_PARKED),
-    );
-}
-
 /// x is 5, then 6, then 5. The attempt of task 0 is one on the first state.
 const COMES_BACK: &[Step] = &[
     Step::Takes(Some(TaskId(0))),
@@ -117,11 +80,6 @@ const COMES_BACK: &[Step] = &[
     Step::Says(Said::X((0, 5, 0), 2, (2, 5, 2))),
     Step::Says(Said::Parked(&[(TaskId(0), TxId(0))])),
 ];
-
-#[test]
-fn a_value_that_comes_back_validates(rt: HostRuntime) {
-    expect(&rt, rt.alloc(), WAITING, None, &What::Steps(COMES_BACK));
-}
 
 /// What breaks a condition changes nothing, and so wakes nobody.
 const STAYS_PARKED: &[Step] = &[
@@ -137,11 +95,6 @@ const STAYS_PARKED: &[Step] = &[
     Step::Says(Said::X((0, 5, 0), 3, (3, 6, 2))),
 ];
 
-#[test]
-fn a_broken_condition_wakes_nobody(rt: HostRuntime) {
-    expect(&rt, rt.alloc(), STANDING, None, &What::Steps(STAYS_PARKED));
-}
-
 const GIVES_UP: &[Step] = &[
     Step::GivesUp(TaskId(0), false),
     Step::Takes(Some(TaskId(0))),
@@ -151,11 +104,6 @@ const GIVES_UP: &[Step] = &[
     Step::Says(Said::Now(1)),
     Step::Says(Said::Memory(&[(TaskId(0), TxId(0))])),
 ];
-
-#[test]
-fn a_task_is_given_up_once(rt: HostRuntime) {
-    expect(&rt, rt.alloc(), TWO, None, &What::Steps(GIVES_UP));
-}
 
 /// The book is of two increments. A catalogue with other runs declares the same, and is the book's own
 /// once a third one was submitted.
@@ -174,11 +122,6 @@ const IS_FOR: &[Step] = &[
     Step::Shows(Look::IsFor(TWO_AND_ONE, false, true)),
 ];
 
-#[test]
-fn a_book_is_for_an_equal_catalogue(rt: HostRuntime) {
-    expect(&rt, rt.alloc(), TWO, Some(1), &What::Steps(IS_FOR));
-}
-
 /// A report copies the journal, which stays.
 const REPORTS_TWICE: &[Step] = &[
     Step::Drains(0),
@@ -188,19 +131,7 @@ const REPORTS_TWICE: &[Step] = &[
     Step::Shows(Look::Journal(4)),
 ];
 
-#[test]
-fn a_report_changes_nothing(rt: HostRuntime) {
-    expect(&rt, rt.alloc(), WAITING, None, &What::Steps(REPORTS_TWICE));
-}
-
 const TAKES: &[Step] = &[Step::Takes(Some(TaskId(0)))];
-
-/// A book can be opened after another.
-#[test]
-fn a_book_can_be_opened_after_another(rt: HostRuntime) {
-    expect(&rt, rt.alloc(), TWO, None, &What::Steps(TAKES));
-    expect(&rt, rt.alloc(), TWO, None, &What::Steps(TAKES));
-}
 
 /// One task is parked and one given up; a submitted one wakes the first.
 const LOOKED_AT: &[Step] = &[
@@ -223,13 +154,95 @@ const LOOKED_AT: &[Step] = &[
     Step::Shows(Look::Grown(3, (TxId(1), 1))),
 ];
 
-#[test]
-fn a_book_is_looked_at(rt: HostRuntime) {
-    expect(
-        &rt,
-        rt.alloc(),
+const ROWS: &[Row] = &[
+    (
+        "a drain keeps the journal short",
+        THREE,
+        None,
+        What::Steps(DRAINS),
+    ),
+    (
+        "a report tells the entry",
+        ONE,
+        None,
+        What::Steps(TELLS_ENTRY),
+    ),
+    (
+        "a commit wakes by what it changes",
+        WAITING,
+        None,
+        What::Steps(WAKES),
+    ),
+    (
+        "a task is taken from a number on",
+        THREE,
+        None,
+        What::Steps(TAKES_FROM),
+    ),
+    (
+        "a task is taken from a number on",
+        THREE,
+        None,
+        What::Steps(TAKES_PAST_THE_LAST),
+    ),
+    (
+        "a parked task is not taken by its number",
+        WAITING,
+        None,
+        What::Steps(PASSES_OVER_THE_PARKED),
+    ),
+    (
+        "a value that comes back validates",
+        WAITING,
+        None,
+        What::Steps(COMES_BACK),
+    ),
+];
+
+const MORE: &[Row] = &[
+    (
+        "a broken condition wakes nobody",
+        STANDING,
+        None,
+        What::Steps(STAYS_PARKED),
+    ),
+    ("a task is given up once", TWO, None, What::Steps(GIVES_UP)),
+    (
+        "a book is for an equal catalogue",
+        TWO,
+        Some(1),
+        What::Steps(IS_FOR),
+    ),
+    (
+        "a report changes nothing",
+        WAITING,
+        None,
+        What::Steps(REPORTS_TWICE),
+    ),
+    (
+        "a book can be opened after another",
+        TWO,
+        None,
+        What::Steps(TAKES),
+    ),
+    (
+        "a book can be opened after another",
+        TWO,
+        None,
+        What::Steps(TAKES),
+    ),
+    (
+        "a book is looked at",
         WAITING_TWICE,
         Some(1),
-        &What::Steps(LOOKED_AT),
-    );
+        What::Steps(LOOKED_AT),
+    ),
+];
+
+pub(crate) fn first_wrong(alloc: Global) -> Option<(usize, usize)> {
+    first_wrong_row(alloc, ROWS)
+}
+
+pub(crate) fn first_wrong_of_more(alloc: Global) -> Option<(usize, usize)> {
+    first_wrong_row(alloc, MORE)
 }

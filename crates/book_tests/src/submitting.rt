@@ -1,9 +1,10 @@
 //! Tasks that are submitted to an open book.
 
 use crate::looks::{Look, Said};
-use crate::rows::{Step, What, expect};
+use crate::rows::{Row, Step, What, first_wrong_row};
 use crate::texts::{ONE, WAITING_TWICE};
 use book::{Finish, Serial};
+use std::alloc::Global;
 use txn::{TaskId, TxId};
 
 /// Two tasks more are submitted while the first runs, and a third has no room; the first of them is
@@ -31,17 +32,6 @@ const WHILE_OTHERS_RUN: &[Step] = &[
     Step::Shows(Look::IsFor(ONE, false, true)),
 ];
 
-#[test]
-fn tasks_are_submitted_while_others_run(rt: HostRuntime) {
-    expect(
-        &rt,
-        rt.alloc(),
-        ONE,
-        Some(2),
-        &What::Steps(WHILE_OTHERS_RUN),
-    );
-}
-
 /// A task that is submitted as running has its turn while one before it is ready; a second is given up, and a
 /// third has no room.
 const AS_RUNNING: &[Step] = &[
@@ -57,11 +47,6 @@ const AS_RUNNING: &[Step] = &[
     Step::Says(Said::Entered(&[TaskId(1), TaskId(0)])),
     Step::Says(Said::Memory(&[(TaskId(2), TxId(0))])),
 ];
-
-#[test]
-fn a_task_is_submitted_as_running(rt: HostRuntime) {
-    expect(&rt, rt.alloc(), ONE, Some(2), &What::Steps(AS_RUNNING));
-}
 
 /// Both tasks wait until x is not 5; a submitted one sets it to 6.
 const WHILE_ALL_ARE_PARKED: &[Step] = &[
@@ -84,25 +69,27 @@ const WHILE_ALL_ARE_PARKED: &[Step] = &[
     Step::Says(Said::Entered(&[TaskId(2), TaskId(0), TaskId(1), TaskId(3)])),
 ];
 
-#[test]
-fn a_submitted_task_wakes_those_that_wait(rt: HostRuntime) {
-    expect(
-        &rt,
-        rt.alloc(),
+const ROWS: &[Row] = &[
+    (
+        "tasks are submitted while others run",
+        ONE,
+        Some(2),
+        What::Steps(WHILE_OTHERS_RUN),
+    ),
+    (
+        "a task is submitted as running",
+        ONE,
+        Some(2),
+        What::Steps(AS_RUNNING),
+    ),
+    (
+        "a submitted task wakes those that wait",
         WAITING_TWICE,
         Some(2),
-        &What::Steps(WHILE_ALL_ARE_PARKED),
-    );
-}
-
-/// There is room for all tasks that there may be.
-const MANY_MORE: &[Step] = &[
-    Step::Fills(TxId(0), 65536),
-    Step::Submits(TxId(0), None),
-    Step::Shows(Look::Tasks(65536)),
+        What::Steps(WHILE_ALL_ARE_PARKED),
+    ),
 ];
 
-#[test]
-fn tasks_are_submitted_up_to_the_limit(rt: HostRuntime) {
-    expect(&rt, rt.alloc(), ONE, Some(65535), &What::Steps(MANY_MORE));
+pub(crate) fn first_wrong(alloc: Global) -> Option<(usize, usize)> {
+    first_wrong_row(alloc, ROWS)
 }
