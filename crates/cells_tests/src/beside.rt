@@ -73,6 +73,5 @@ fn reads_beside_a_publisher_are_of_one_state(rt: HostRuntime) {
             requires { (pass.cells ≡ shared.now) × (2 ≤ shared.now.variables) }
         { read_some(shared, pass, 1000) },
     );
-    assert!(rt; same);
-    assert_eq!(rt; publisher.number(), 1000);
+    assert!(rt; same && publisher.number() == 1000);
 }

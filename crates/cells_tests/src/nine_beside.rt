@@ -8,7 +8,6 @@ use crate::observing::catalogue;
 use cells::{Cells, Pass, Publisher};
 use run_observer::{Observed, observe};
 use std::alloc::Global;
-use std::process::Abort;
 use std::thread::{Threads, join};
 use txn::{Catalogue, Outcome, TxId, VarId};
 
@@ -98,19 +97,24 @@ fn both(
     fine
 }
 
-/// Opens the cells of that.
-fn opens(rt: &(impl Abort + Threads), alloc: Global, catalogue: &Catalogue) {
-    assert!(rt; catalogue.initial().len() == 9 && catalogue.is_callable(SUM, &[]));
+/// Whether it is so of cells that are opened for it.
+fn are_observed(rt: &impl Threads, alloc: Global, catalogue: &Catalogue) -> bool {
+    if catalogue.initial().len() != 9 || !catalogue.is_callable(SUM, &[]) {
+        return false;
+    }
     let Ok((cells, publisher, mut passes)) = Cells::open(alloc, &[0; 9], 1) else {
-        panic!(rt; "no cells")
+        return false;
     };
     match passes.pop() {
-        Some(pass) => assert!(rt; both(rt, alloc, &cells, publisher, pass, catalogue)),
-        None => panic!(rt; "no pass"),
+        Some(pass) => both(rt, alloc, &cells, publisher, pass, catalogue),
+        None => false,
     }
 }
 
 #[test]
 fn sums_of_nine_beside_a_publisher_are_of_one_state(rt: HostRuntime) {
-    opens(&rt, rt.alloc(), &catalogue(&rt, rt.alloc(), NINE));
+    match catalogue(rt.alloc(), NINE) {
+        Some(catalogue) => assert!(rt; are_observed(&rt, rt.alloc(), &catalogue)),
+        None => panic!(rt; "no catalogue"),
+    }
 }

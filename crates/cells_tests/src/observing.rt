@@ -8,7 +8,6 @@ use attempt::{Attempt, Next};
 use cells::{Cells, Pass, Publisher};
 use run_observer::{Cut, Observed, observe, tell};
 use std::alloc::Global;
-use std::process::Abort;
 use txn::{Catalogue, Fault, Outcome, TxId};
 use txn_text::read_file;
 
@@ -16,92 +15,68 @@ use txn_text::read_file;
 const FILE: &str = "(var x 5)(tx inc (set x (add x 1)) x)(tx bad (throw x) 0)\
     (tx wait (if (eq x 6) (retry) (skip)) x)(run inc 2)";
 
-/// What is done with a pass of cells whose one variable is 5.
-#[derive(Clone, Copy)]
-enum Script {
-    ReadsBack,
-    ThrowsAndRetries,
-    IsTold,
-}
-
-/// The catalogue of a text.
-pub(crate) fn catalogue(rt: &impl Abort, alloc: Global, text: &str) -> Catalogue {
+/// The catalogue of a text, `None` where it is no file or memory is refused.
+pub(crate) fn catalogue(alloc: Global, text: &str) -> Option<Catalogue> {
     match read_file(alloc, text.as_bytes()) {
-        Ok(catalogue) => catalogue,
-        Err(_) => panic!(rt; "no catalogue"),
+        Ok(catalogue) => Some(catalogue),
+        Err(_) => None,
     }
 }
 
-/// The transaction is observed to end so.
+/// Whether the transaction is observed to end so.
 pub(crate) fn sees(
-    rt: &impl Abort,
     alloc: Global,
     cells: &Cells,
     pass: &mut Pass,
     catalogue: &Catalogue,
     tx: TxId,
     end: Outcome,
-)
+) -> bool
     requires own { pass.old.cells ≡ cells.now }
     requires variables { cells.now.variables ≡ length catalogue.now.initial }
     ensures own { pass.new.cells ≡ pass.old.cells }
 {
-    assert!(rt; catalogue.is_callable(tx, &[]));
-    let seen = observe(alloc, cells, pass, catalogue, tx, &[]);
-    assert!(rt; seen == Observed::Outcome(end));
+    catalogue.is_callable(tx, &[])
+        && observe(alloc, cells, pass, catalogue, tx, &[]) == Observed::Outcome(end)
 }
 
-/// A pass that begins reads that x is 6.
-fn reads_six(rt: &impl Abort, cells: &Cells, pass: &mut Pass)
+/// Whether a pass that begins reads that x is 6.
+fn reads_six(cells: &Cells, pass: &mut Pass) -> bool
     requires own { pass.old.cells ≡ cells.now }
     requires exists { 0 < cells.now.variables }
     ensures own { pass.new.cells ≡ pass.old.cells }
 {
     begins(cells, pass);
-    shows(rt, cells, pass, X, 6);
+    shows(cells, pass, X, 6)
 }
 
+/// Whether what was written is read back and observed, and the pass stays open; so are a throw and a retry observed.
 fn reads_back(
-    rt: &impl Abort,
     alloc: Global,
     cells: &Cells,
     publisher: &mut Publisher,
     pass: &mut Pass,
     catalogue: &Catalogue,
-)
+) -> bool
     requires own { pass.old.cells ≡ cells.now }
     requires published { publisher.old.cells ≡ cells.now }
-    requires start { publisher.old.history ≡ (pos 5 ∷ []) ∷ [] }
     requires one { cells.now.variables ≡ 1 }
     requires variables { length catalogue.now.initial ≡ 1 }
 {
-    publish_six(cells, publisher);
     publisher.meet(cells, pass);
-    reads_six(rt, cells, pass);
-    let seven = Outcome::Returned(7);
-    sees(rt, alloc, cells, pass, catalogue, TxId(0), seven);
-    assert!(rt; pass.is_open());
-    reads_six(rt, cells, pass);
-}
-
-fn throws_and_retries(
-    rt: &impl Abort,
-    alloc: Global,
-    cells: &Cells,
-    publisher: &mut Publisher,
-    pass: &mut Pass,
-    catalogue: &Catalogue,
-)
-    requires own { pass.old.cells ≡ cells.now }
-    requires published { publisher.old.cells ≡ cells.now }
-    requires start { publisher.old.history ≡ (pos 5 ∷ []) ∷ [] }
-    requires one { cells.now.variables ≡ 1 }
-    requires variables { length catalogue.now.initial ≡ 1 }
-{
-    publish_six(cells, publisher);
-    let thrown = Outcome::Thrown(Fault::User(6));
-    sees(rt, alloc, cells, pass, catalogue, TxId(1), thrown);
-    sees(rt, alloc, cells, pass, catalogue, TxId(2), Outcome::Retries);
+    reads_six(cells, pass)
+        && sees(alloc, cells, pass, catalogue, TxId(0), Outcome::Returned(7))
+        && pass.is_open()
+        && reads_six(cells, pass)
+        && sees(
+            alloc,
+            cells,
+            pass,
+            catalogue,
+            TxId(1),
+            Outcome::Thrown(Fault::User(6)),
+        )
+        && sees(alloc, cells, pass, catalogue, TxId(2), Outcome::Retries)
 }
 
 /// How the attempt is told what the pass reads of the variable that it needs.
@@ -124,76 +99,62 @@ pub(crate) fn told(
     }
 }
 
-/// It is told that x is 6, though x was changed after the begin: it had read nothing before.
+/// Whether the attempt is told that x is 6, though x was changed after the begin: it had read nothing before.
 fn is_told_six(
-    rt: &impl Abort,
     cells: &Cells,
     publisher: &mut Publisher,
     pass: &mut Pass,
     attempt: &mut Attempt<'_>,
-)
+) -> bool
     requires own { pass.old.cells ≡ cells.now }
     requires published { publisher.old.cells ≡ cells.now }
     requires start { publisher.old.history ≡ (pos 5 ∷ []) ∷ [] }
     requires variables { attempt.old.variables ≤ cells.now.variables }
+    ensures own { pass.new.cells ≡ pass.old.cells }
+    ensures published { publisher.new.cells ≡ publisher.old.cells }
 {
     begins(cells, pass);
     publish_six(cells, publisher);
-    assert!(rt; told(cells, pass, attempt) == Some(Ok(())));
-    assert!(rt; attempt.log() == [(X, 6)].as_slice());
+    told(cells, pass, attempt) == Some(Ok(())) && attempt.log() == [(X, 6)].as_slice()
 }
 
-/// So it is of an attempt of the catalogue's first transaction.
+/// Whether so it is of an attempt of the catalogue's first transaction.
 fn first_is_told(
-    rt: &impl Abort,
     alloc: Global,
     cells: &Cells,
     publisher: &mut Publisher,
     pass: &mut Pass,
     catalogue: &Catalogue,
-)
+) -> bool
     requires own { pass.old.cells ≡ cells.now }
     requires published { publisher.old.cells ≡ cells.now }
     requires start { publisher.old.history ≡ (pos 5 ∷ []) ∷ [] }
     requires variables { length catalogue.now.initial ≤ cells.now.variables }
     requires known { IsCallable catalogue.now (record { 0 = 0 }) [] }
+    ensures own { pass.new.cells ≡ pass.old.cells }
+    ensures published { publisher.new.cells ≡ publisher.old.cells }
 {
     let mut attempt = Attempt::new(alloc, catalogue, TxId(0), &[]);
-    is_told_six(rt, cells, publisher, pass, &mut attempt);
+    is_told_six(cells, publisher, pass, &mut attempt)
 }
 
-/// Opens cells whose one variable is 5, and follows the script.
-fn over(rt: &impl Abort, alloc: Global, catalogue: &Catalogue, script: Script) {
-    assert!(rt; catalogue.initial().len() == 1 && catalogue.is_callable(TxId(0), &[]));
+/// Whether all that is so of cells whose one variable is 5.
+fn over(alloc: Global, catalogue: &Catalogue) -> bool {
+    if catalogue.initial().len() != 1 || !catalogue.is_callable(TxId(0), &[]) {
+        return false;
+    }
     let Ok((cells, mut publisher, mut passes)) = Cells::open(alloc, &[5], 1) else {
-        panic!(rt; "no cells")
+        return false;
     };
     let pass = &mut passes[0];
-    let publisher = &mut publisher;
-    match script {
-        Script::ReadsBack => reads_back(rt, alloc, &cells, publisher, pass, catalogue),
-        Script::ThrowsAndRetries => {
-            throws_and_retries(rt, alloc, &cells, publisher, pass, catalogue);
-        }
-        Script::IsTold => first_is_told(rt, alloc, &cells, publisher, pass, catalogue),
+    first_is_told(alloc, &cells, &mut publisher, pass, catalogue)
+        && reads_back(alloc, &cells, &mut publisher, pass, catalogue)
+}
+
+#[test]
+fn attempts_are_told_and_transactions_observed(rt: HostRuntime) {
+    match catalogue(rt.alloc(), FILE) {
+        Some(catalogue) => assert!(rt; over(rt.alloc(), &catalogue)),
+        None => panic!(rt; "no catalogue"),
     }
-}
-
-fn follows(rt: &impl Abort, alloc: Global, script: Script) {
-    over(rt, alloc, &catalogue(rt, alloc, FILE), script);
-}
-
-#[test]
-fn a_write_is_read_back_and_observed(rt: HostRuntime) {
-    follows(&rt, rt.alloc(), Script::ReadsBack);
-}
-
-#[test]
-fn throws_and_retries_are_observed(rt: HostRuntime) {
-    follows(&rt, rt.alloc(), Script::ThrowsAndRetries);
-}
-
-#[test]
-fn an_attempt_is_told_what_is_read(rt: HostRuntime) {
-    follows(&rt, rt.alloc(), Script::IsTold);
 }

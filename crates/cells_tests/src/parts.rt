@@ -1,55 +1,39 @@
 //! The variables of the tests, and reads that are compared.
 
-ghost use Rattle.std.specs.Prelude.{◌≡◌, ◌<◌, ◌≤◌, [], ◌∷◌, pos, true};
+ghost use Rattle.std.specs.Prelude.{◌≡◌, ◌<◌, ◌≤◌, [], ◌∷◌, pos};
 
 use cells::{Cells, Pass, Publisher, Read};
-use std::process::Abort;
 use txn::VarId;
 
 pub(crate) const X: VarId = VarId(0);
 
 pub(crate) const Y: VarId = VarId(1);
 
-/// A read answers so.
-pub(crate) fn reads(rt: &impl Abort, cells: &Cells, pass: &mut Pass, x: VarId, answer: Read)
-    requires own { pass.old.cells ≡ cells.now }
-    requires open { pass.old.open_now ≡ true }
-    requires exists { x.0 < cells.now.variables }
-    ensures own { pass.new.cells ≡ pass.old.cells }
-{
-    assert!(rt; pass.read(cells, x) == answer);
-}
-
-/// A read of a pass that is open gives this value, and the pass stays open.
-pub(crate) fn sees(rt: &impl Abort, cells: &Cells, pass: &mut Pass, x: VarId, value: i64)
+/// Whether a read of a pass that is open gives this value, and the pass stays open.
+pub(crate) fn sees(cells: &Cells, pass: &mut Pass, x: VarId, value: i64) -> bool
     requires own { pass.old.cells ≡ cells.now }
     requires exists { x.0 < cells.now.variables }
     ensures own { pass.new.cells ≡ pass.old.cells }
 {
-    assert!(rt; pass.is_open());
-    reads(rt, cells, pass, x, Read::Value(value));
-    assert!(rt; pass.is_open());
+    pass.is_open() && pass.read(cells, x) == Read::Value(value) && pass.is_open()
 }
 
-/// So it is of x and of y.
-pub(crate) fn sees_both(rt: &impl Abort, cells: &Cells, pass: &mut Pass, x: i64, y: i64)
+/// Whether so it is of x and of y.
+pub(crate) fn sees_both(cells: &Cells, pass: &mut Pass, x: i64, y: i64) -> bool
     requires own { pass.old.cells ≡ cells.now }
     requires exist { 2 ≤ cells.now.variables }
     ensures own { pass.new.cells ≡ pass.old.cells }
 {
-    sees(rt, cells, pass, X, x);
-    sees(rt, cells, pass, Y, y);
+    sees(cells, pass, X, x) && sees(cells, pass, Y, y)
 }
 
-/// A read of a pass that is open is stale, and closes it.
-pub(crate) fn is_stale(rt: &impl Abort, cells: &Cells, pass: &mut Pass, x: VarId)
+/// Whether a read of a pass that is open is stale, and closes it.
+pub(crate) fn is_stale(cells: &Cells, pass: &mut Pass, x: VarId) -> bool
     requires own { pass.old.cells ≡ cells.now }
     requires exists { x.0 < cells.now.variables }
     ensures own { pass.new.cells ≡ pass.old.cells }
 {
-    assert!(rt; pass.is_open());
-    reads(rt, cells, pass, x, Read::Stale);
-    assert!(rt; !pass.is_open());
+    pass.is_open() && pass.read(cells, x) == Read::Stale && !pass.is_open()
 }
 
 /// The pass begins.
