@@ -38,7 +38,7 @@ fn is_read(
     front: &[u8],
     piece: usize,
     left: usize,
-    limit: Option<usize>,
+    limit: Option<u32>,
     count: usize,
 ) -> bool {
     let handed = Cell::new(0);
@@ -49,7 +49,7 @@ fn is_read(
         handed: &handed,
     };
     let read = match limit {
-        Some(limit) => read_up_to(alloc, input, limit),
+        Some(limit) => read_up_to(alloc, input, limit as usize),
         None => read_file_up_to(alloc, input),
     };
     let size = match read {
@@ -62,10 +62,10 @@ fn is_read(
 /// One byte past the limit is read, and no more, of a file, a schedule or a report.
 #[test]
 fn one_byte_past_the_limit_is_read(rt: HostRuntime) {
-    for limit in [0usize, 1, 1_048_576, 8_388_608] {
+    for limit in [0u32, 1, 1_048_576, 8_388_608] {
         for (more, beyond) in [(0, 0), (1, 1), (5, 1)] {
-            let size = limit.saturating_add(more);
-            let count = limit.saturating_add(beyond);
+            let size = (limit as usize).saturating_add(more);
+            let count = (limit as usize).saturating_add(beyond);
             assert!(rt;
                 is_read(rt.alloc(), b"", 1, size, Some(limit), count),
                 "of {size}"

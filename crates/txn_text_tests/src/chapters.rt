@@ -1,11 +1,11 @@
 //! Chapters: whether a file goes on where an earlier file and its report ended. More of them are played by
 //! `cases/chapters.cases`.
 
+use crate::parts::catalogue;
 use checker::{ChapterFault, ChapterVerdict, Judgement, Part, check_after, goes_on_after, judged};
 use std::alloc::Global;
-use std::process::Abort;
 use txn::Catalogue;
-use txn_text::{ReadFault, read_file};
+use txn_text::ReadFault;
 
 /// One task waits for n to be another value than 0, one for 100 or more, one adds 7.
 const FIRST: &str =
@@ -35,66 +35,86 @@ fn is_said(
     found == wanted
 }
 
+/// A file and its report, the pair before it, and what is said of them.
+type Row = (
+    (&'static str, &'static str),
+    (&'static str, &'static str),
+    Result<ChapterVerdict, ChapterFault>,
+);
+
+const PAIRS: &[Row] = &[
+    (("", NOTHING), ("", NOTHING), Ok(ChapterVerdict::Good)),
+    (("", ""), ("", NOTHING), Ok(ChapterVerdict::Bad(Part::Text))),
+    (
+        ("", NOTHING),
+        ("", ""),
+        Ok(ChapterVerdict::Before(Part::Text)),
+    ),
+    (("", NOTHING), (FIRST, ENDED), Ok(ChapterVerdict::Elsewhere)),
+    (
+        ("(var", NOTHING),
+        ("", NOTHING),
+        Err(ChapterFault::File(ReadFault::Shape)),
+    ),
+    (
+        ("", NOTHING),
+        ("(var", NOTHING),
+        Err(ChapterFault::Earlier(ReadFault::Shape)),
+    ),
+];
+
 #[test]
 fn each_verdict_on_a_chapter(rt: HostRuntime) {
-    let nothing = ("", NOTHING);
-    for (pair, earlier, wanted) in [
-        (nothing, nothing, Ok(ChapterVerdict::Good)),
-        (("", ""), nothing, Ok(ChapterVerdict::Bad(Part::Text))),
-        (nothing, ("", ""), Ok(ChapterVerdict::Before(Part::Text))),
-        (nothing, (FIRST, ENDED), Ok(ChapterVerdict::Elsewhere)),
-        (
-            ("(var", NOTHING),
-            nothing,
-            Err(ChapterFault::File(ReadFault::Shape)),
-        ),
-        (
-            nothing,
-            ("(var", NOTHING),
-            Err(ChapterFault::Earlier(ReadFault::Shape)),
-        ),
-    ] {
+    for (pair, earlier, wanted) in PAIRS {
         assert!(rt;
-            is_said(rt.alloc(), pair, earlier, wanted),
+            is_said(rt.alloc(), *pair, *earlier, *wanted),
             "of {}",
             earlier.1
         );
     }
 }
 
-fn read(rt: &impl Abort, alloc: Global, file: &str) -> Catalogue {
-    match read_file(alloc, file.as_bytes()) {
-        Ok(catalogue) => catalogue,
-        Err(_) => panic!(rt; "no catalogue"),
+/// Whether the text is judged to be lawful, and what it leaves does not go on as the catalogue begins.
+fn is_handed_on(alloc: Global, catalogue: &Catalogue) -> bool {
+    match judged(alloc, catalogue, ENDED.as_bytes()) {
+        Ok(Judgement::Lawful(report)) => {
+            report.parked.len() == 2
+                && goes_on_after(alloc, catalogue, &report, catalogue) == Ok(false)
+        }
+        _ => false,
+    }
+}
+
+/// Whether a report of another file is not lawful.
+fn is_refused(alloc: Global, catalogue: &Catalogue) -> bool {
+    match judged(alloc, catalogue, NOTHING.as_bytes()) {
+        Ok(Judgement::Bad(part)) => part == Part::Text,
+        _ => false,
     }
 }
 
 #[test]
 fn a_lawful_report_is_handed_on(rt: HostRuntime) {
-    let alloc = rt.alloc();
-    let catalogue = read(&rt, alloc, FIRST);
-    match judged(alloc, &catalogue, ENDED.as_bytes()) {
-        Ok(Judgement::Lawful(report)) => {
-            assert!(rt; report.parked.len() == 2);
-            assert!(rt; goes_on_after(alloc, &catalogue, &report, &catalogue) == Ok(false));
+    match catalogue(rt.alloc(), FIRST) {
+        Some(first) => {
+            assert!(rt; is_handed_on(rt.alloc(), &first) && is_refused(rt.alloc(), &first));
         }
-        _ => panic!(rt; "it is lawful"),
-    }
-    match judged(alloc, &catalogue, NOTHING.as_bytes()) {
-        Ok(Judgement::Bad(part)) => assert!(rt; part == Part::Text),
-        _ => panic!(rt; "it is not lawful"),
+        None => panic!(rt; "no catalogue"),
     }
 }
 
+const LINES: &[(ChapterVerdict, &str)] = &[
+    (ChapterVerdict::Good, "good\n"),
+    (ChapterVerdict::Bad(Part::Text), "bad 1\n"),
+    (ChapterVerdict::Bad(Part::Parked), "bad 6\n"),
+    (ChapterVerdict::Elsewhere, "bad 7\n"),
+    (ChapterVerdict::Before(Part::Text), "before bad 1\n"),
+    (ChapterVerdict::Before(Part::Parked), "before bad 6\n"),
+];
+
 #[test]
 fn verdicts_on_chapters_have_lines(rt: HostRuntime) {
-    assert_eq!(rt; ChapterVerdict::Good.line(), "good\n");
-    assert_eq!(rt; ChapterVerdict::Bad(Part::Text).line(), "bad 1\n");
-    assert_eq!(rt; ChapterVerdict::Bad(Part::Parked).line(), "bad 6\n");
-    assert_eq!(rt; ChapterVerdict::Elsewhere.line(), "bad 7\n");
-    assert_eq!(rt; ChapterVerdict::Before(Part::Text).line(), "before bad 1\n");
-    assert_eq!(rt;
-        ChapterVerdict::Before(Part::Parked).line(),
-        "before bad 6\n"
-    );
+    for (verdict, line) in LINES {
+        assert_eq!(rt; verdict.line(), *line);
+    }
 }

@@ -2,34 +2,44 @@
 
 use crate::checked_parts::{BROKEN, DIVISION, FILE, REPORT, failed};
 use std::alloc::Global;
-use std::process::Abort;
 
-/// Whether a report of a file is lawful.
-fn is_lawful(alloc: Global, file: &str, report: &[u8]) -> Option<bool> {
-    match failed(alloc, file, report) {
-        Some(part) => Some(part == 0),
-        None => None,
+/// Whether the report is lawful with its own byte at this place, and not with any other.
+fn tells_changes_at(alloc: Global, file: &str, text: &mut [u8], place: usize) -> bool {
+    let Some(before) = text.get(place).copied() else {
+        return false;
+    };
+    for byte in 0..=255u8 {
+        text[place] = byte;
+        match failed(alloc, file, text) {
+            Some(part) if (part == 0) == (byte == before) => {}
+            _ => return false,
+        }
     }
+    text[place] = before;
+    true
 }
 
-/// Each byte is replaced by each other, and none of what comes of it is lawful.
-fn finds_changes(rt: &(impl Abort + Eprint), alloc: Global, file: &str, report: &str) {
-    let Ok(mut text) = report.as_bytes().to_vec(alloc) else {
-        panic!(rt; "no text")
-    };
+/// The first place at which another byte leaves the report lawful, `None` where there is none.
+fn first_untold(alloc: Global, file: &str, text: &mut [u8]) -> Option<usize> {
     for place in 0..text.len() {
-        let before = text[place];
-        for byte in 0..=255u8 {
-            text[place] = byte;
-            let is_so = is_lawful(alloc, file, text.as_slice()) == Some(byte == before);
-            assert!(rt; is_so, "of {byte} at {place}");
+        if !tells_changes_at(alloc, file, text, place) {
+            return Some(place);
         }
-        text[place] = before;
+    }
+    None
+}
+
+/// So it is of a report of the file.
+fn first_untold_of(alloc: Global, file: &str, report: &str) -> Option<usize> {
+    match report.as_bytes().to_vec(alloc) {
+        Ok(mut text) => first_untold(alloc, file, &mut text),
+        Err(_) => Some(0),
     }
 }
 
 #[test]
 fn every_change_of_one_byte_is_found(rt: HostRuntime) {
-    finds_changes(&rt, rt.alloc(), FILE, REPORT);
-    finds_changes(&rt, rt.alloc(), DIVISION, BROKEN);
+    for (file, report) in [(FILE, REPORT), (DIVISION, BROKEN)] {
+        assert_eq!(rt; first_untold_of(rt.alloc(), file, report), None);
+    }
 }

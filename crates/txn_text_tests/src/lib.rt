@@ -11,9 +11,9 @@ mod checked_texts;
 #[cfg(test)]
 mod conditions;
 #[cfg(test)]
-mod names;
+mod files;
 #[cfg(test)]
-mod parameters;
+mod names;
 #[cfg(test)]
 mod parts;
 #[cfg(test)]

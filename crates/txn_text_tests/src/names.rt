@@ -1,11 +1,7 @@
 //! The names of what a file declares, by number.
 
-use crate::parts::is_file;
 use text_report_printer::{always_name, transaction_name, variable_name};
 use txn::{AlwaysId, Catalogue};
-
-const DECLARED: &str = "(stm 2)(var x 1)(var last 2)(always low (lt x last))(always high (lt x 9))\
-    (tx first (skip) 0)(tx inc (set x (add x 1)) x)(run inc 2)";
 
 /// Whether each is told by its name, and by nothing where there is none.
 fn are_named(catalogue: &Catalogue) -> bool {
@@ -29,11 +25,6 @@ fn others_have_none(catalogue: &Catalogue) -> bool {
 }
 
 /// Whether what there is has its name, and nothing else has one.
-fn are_names_of_the_file(catalogue: &Catalogue) -> bool {
+pub(crate) fn are_names_of_the_file(catalogue: &Catalogue) -> bool {
     are_named(catalogue) && others_have_none(catalogue)
-}
-
-#[test]
-fn names_are_those_of_the_file(rt: HostRuntime) {
-    assert!(rt; is_file(rt.alloc(), DECLARED, are_names_of_the_file));
 }

@@ -5,30 +5,16 @@ ghost use Rattle.txn_programs.specs.Listing.{Listing, tasks};
 ghost use Rattle.txn_programs.specs.LawfulReport.{FitsCatalogue};
 ghost use Rattle.txn_programs.specs.Told.{told};
 
-use crate::parts::{INCREMENTS, is_file};
 use std::alloc::{AllocError, Global};
 use txn::{Catalogue, Entry, Fault, Outcome, Report, TaskId, TxId};
 use txn_text::{print_file, print_report};
 
 /// Whether the catalogue's file is printed so.
-fn prints(alloc: Global, catalogue: &Catalogue, canonical: &str) -> bool {
+pub(crate) fn prints(alloc: Global, catalogue: &Catalogue, canonical: &str) -> bool {
     match print_file(alloc, catalogue) {
         Ok(text) => text.as_str() == canonical,
         Err(_) => false,
     }
-}
-
-/// Whether the file is printed so.
-fn is_printed(alloc: Global, input: &str, canonical: &str) -> bool {
-    is_file(alloc, input, |catalogue| {
-        prints(alloc, catalogue, canonical)
-    })
-}
-
-#[test]
-fn a_file_is_printed_in_one_way(rt: HostRuntime) {
-    let canonical = "(var x 5)\n(tx inc (set x (add x 1)) x)\n(run inc 2)\n";
-    assert!(rt; is_printed(rt.alloc(), INCREMENTS, canonical));
 }
 
 /// The entry of a task of the first transaction, with the number that follows the task's.
@@ -68,7 +54,7 @@ fn report(alloc: Global) -> Result<Report, AllocError>
 }
 
 /// Whether the report is printed so for a catalogue of seven tasks of one transaction.
-fn is_report(alloc: Global, catalogue: &Catalogue, lines: &str) -> bool {
+pub(crate) fn is_report(alloc: Global, catalogue: &Catalogue, lines: &str) -> bool {
     if catalogue.initial().len() != 0 || catalogue.tx_count() != 1 || catalogue.tasks() != 7 {
         return false;
     }
@@ -79,17 +65,4 @@ fn is_report(alloc: Global, catalogue: &Catalogue, lines: &str) -> bool {
         Ok(text) => text.as_str() == lines,
         Err(_) => false,
     }
-}
-
-#[test]
-fn reports_are_printed_line_by_line(rt: HostRuntime) {
-    let lines =
-        "base 0\nentry 1 0 t returned -9223372036854775808\nentry 2 1 t threw -7\nentry 3 2 t overflow\nentry 4 3 t \
-            zerodiv\nentry 5 4 t outside\nnow 5\nparked 5 t\nmemory 6 t\nend\n";
-    let alloc = rt.alloc();
-    assert!(rt;
-        is_file(alloc, "(tx t (skip) 0)(run t 7)", |catalogue| {
-            is_report(alloc, catalogue, lines)
-        })
-    );
 }

@@ -1,35 +1,52 @@
-//! A file that is read, and one that is refused by each kind.
+//! Texts that are refused, by each kind.
 
-use crate::parts::{INCREMENTS, Kind, expect_faults, is_file};
+use crate::parts::{Kind, fault};
 use std::alloc::Global;
-use txn::{Catalogue, TxId, VarId};
 use txn_text::{ReadFault, laws, text_is_laid_out};
 
-fn are_increments(file: &Catalogue) -> bool {
-    file.initial() == [5].as_slice()
-        && file.tx_count() == 1
-        && file.tasks() == 2
-        && file.var_id("x") == Some(VarId(0))
-        && file.tx_id("inc") == Some(TxId(0))
-}
-
-#[test]
-fn reads_increments(rt: HostRuntime) {
-    assert!(rt; is_file(rt.alloc(), INCREMENTS, are_increments));
-}
-
-/// A text of each kind of fault.
-const FAULTS: &[(&[u8], ReadFault)] = &[
-    (b"(var x \xc8", ReadFault::BadByte),
-    (b"(var x", ReadFault::Shape),
-    (b"(var x 1)(var x 1)", ReadFault::Name),
-    (b"(var x 9223372036854775808)", ReadFault::Limit),
-    (b"(stm 2)(always a (lt 0 0))", ReadFault::Broken),
+/// A text of each kind of fault: of a file, of a report of the two increments, and of a schedule of the pair.
+const FAULTS: &[(Kind, &[u8], ReadFault)] = &[
+    (Kind::File, b"(var x \xc8", ReadFault::BadByte),
+    (Kind::File, b"(var x", ReadFault::Shape),
+    (Kind::File, b"(var x 1)(var x 1)", ReadFault::Name),
+    (Kind::File, b"(var x 9223372036854775808)", ReadFault::Limit),
+    (Kind::File, b"(stm 2)(always a (lt 0 0))", ReadFault::Broken),
+    (Kind::Report, b"end\t", ReadFault::BadByte),
+    (
+        Kind::Report,
+        b"base 00\nx 5 0\nnow 0\nx 5 0\nend\n",
+        ReadFault::Shape,
+    ),
+    (
+        Kind::Report,
+        b"base 0\ny 5 0\nnow 0\nx 5 0\nend\n",
+        ReadFault::Name,
+    ),
+    (
+        Kind::Report,
+        b"base 65537\nx 5 0\nnow 0\nx 5 0\nend\n",
+        ReadFault::Limit,
+    ),
+    (Kind::Schedule, b"word\t", ReadFault::BadByte),
+    (Kind::Schedule, b"begin 0", ReadFault::Shape),
+    (Kind::Schedule, b"begin 2\nread 0 z\n", ReadFault::Name),
+    (Kind::Schedule, b"begin 2\n", ReadFault::Limit),
 ];
 
+/// The first of them that is not refused so, `None` where all are.
+fn first_wrong(alloc: Global) -> Option<usize> {
+    for place in 0..FAULTS.len() {
+        let (kind, text, want) = &FAULTS[place];
+        if fault(alloc, kind, text) != Some(*want) {
+            return Some(place);
+        }
+    }
+    None
+}
+
 #[test]
-fn tells_each_kind(rt: HostRuntime) {
-    expect_faults(&rt, rt.alloc(), Kind::File, FAULTS);
+fn texts_are_refused_by_each_kind(rt: HostRuntime) {
+    assert_eq!(rt; first_wrong(rt.alloc()), None);
 }
 
 /// Whether the fault is told so.
@@ -40,18 +57,20 @@ fn is_told(alloc: Global, fault: ReadFault, text: &str) -> bool {
     }
 }
 
+const NAMES: &[(ReadFault, &str)] = &[
+    (ReadFault::TooLong, "F1 TooLong"),
+    (ReadFault::BadByte, "F2 BadByte"),
+    (ReadFault::Shape, "F3 Shape"),
+    (ReadFault::Name, "F4 Name"),
+    (ReadFault::Limit, "F5 Limit"),
+    (ReadFault::Memory, "F6 Memory"),
+    (ReadFault::Broken, "F7 Broken"),
+];
+
 #[test]
 fn faults_have_names(rt: HostRuntime) {
-    for (fault, text) in [
-        (ReadFault::TooLong, "F1 TooLong"),
-        (ReadFault::BadByte, "F2 BadByte"),
-        (ReadFault::Shape, "F3 Shape"),
-        (ReadFault::Name, "F4 Name"),
-        (ReadFault::Limit, "F5 Limit"),
-        (ReadFault::Memory, "F6 Memory"),
-        (ReadFault::Broken, "F7 Broken"),
-    ] {
-        assert!(rt; is_told(rt.alloc(), fault, text), "of {text}");
+    for (fault, text) in NAMES {
+        assert!(rt; is_told(rt.alloc(), *fault, text), "of {text}");
     }
 }
 

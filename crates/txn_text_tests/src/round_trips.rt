@@ -12,10 +12,8 @@ ghost use Rattle.txn_text.specs.Reports.{IsReport, knows_cells, max_len};
 ghost use Rattle.txn_text.specs.Spelling.{Spells};
 ghost use Rattle.txn_text.specs.fault.ReadFault.TheVariants.{Memory, TooLong};
 
-use crate::parts::{INCREMENTS, is_file};
 use crate::report_reading::REPORT;
 use std::alloc::Global;
-use std::process::Abort;
 use txn::{Catalogue, Report};
 use txn_text::{ReadFault, print_file, print_report, read_file, read_report};
 
@@ -99,7 +97,7 @@ fn both_again(
 }
 
 /// Whether the catalogue and its report come back.
-fn come_back(alloc: Global, catalogue: &Catalogue) -> bool {
+pub(crate) fn comes_back(alloc: Global, catalogue: &Catalogue) -> bool {
     let Ok(report) = read_report(alloc, REPORT.as_bytes(), catalogue) else {
         return false;
     };
@@ -107,10 +105,4 @@ fn come_back(alloc: Global, catalogue: &Catalogue) -> bool {
         Ok((file, again)) => file.tasks() == 2 && again.now == 2,
         Err(_) => false,
     }
-}
-
-#[test]
-fn a_file_and_its_report_come_back(rt: HostRuntime) {
-    let alloc = rt.alloc();
-    assert!(rt; is_file(alloc, INCREMENTS, |catalogue| come_back(alloc, catalogue)));
 }

@@ -1,8 +1,8 @@
-//! Schedules that are read, and one that is refused by each kind.
+//! Schedules that are read.
 
-use crate::parts::{Kind, PAIR, are_moves, expect_faults};
-use txn::{Move, TaskId, VarId};
-use txn_text::ReadFault;
+use crate::parts::{PAIR, are_moves, catalogue};
+use std::alloc::Global;
+use txn::{Catalogue, Move, TaskId, VarId};
 
 const X: VarId = VarId(0);
 
@@ -55,25 +55,21 @@ const SCHEDULES: &[(&[u8], &[Move])] = &[
     ),
 ];
 
-#[test]
-fn schedules_are_read(rt: HostRuntime) {
-    for (text, wanted) in SCHEDULES {
-        assert!(rt;
-            are_moves(rt.alloc(), PAIR, text, wanted),
-            "of {}",
-            text.len()
-        );
+/// The first of them that is not read so, `None` where all are.
+fn first_wrong(alloc: Global, catalogue: &Catalogue) -> Option<usize> {
+    for place in 0..SCHEDULES.len() {
+        let (text, wanted) = SCHEDULES[place];
+        if !are_moves(alloc, catalogue, text, wanted) {
+            return Some(place);
+        }
     }
+    None
 }
 
-const FAULTS: &[(&[u8], ReadFault)] = &[
-    (b"word\t", ReadFault::BadByte),
-    (b"begin 0", ReadFault::Shape),
-    (b"begin 2\nread 0 z\n", ReadFault::Name),
-    (b"begin 2\n", ReadFault::Limit),
-];
-
 #[test]
-fn schedules_are_refused_by_each_kind(rt: HostRuntime) {
-    expect_faults(&rt, rt.alloc(), Kind::Schedule, FAULTS);
+fn schedules_are_read(rt: HostRuntime) {
+    match catalogue(rt.alloc(), PAIR) {
+        Some(catalogue) => assert_eq!(rt; first_wrong(rt.alloc(), &catalogue), None),
+        None => panic!(rt; "no catalogue"),
+    }
 }
