@@ -17,10 +17,7 @@ fn declared() -> Declare {
     let acct = bank.table("acct", ACCOUNTS, EACH);
     bank.tx_with("pay", ["from", "to", "n"], |[from, to, n]| {
         let missing = throw(param(&n) - acct.at(&from));
-        let paid = seq([
-            acct.put(&from, acct.at(&from) - &n),
-            acct.put(&to, acct.at(&to) + &n),
-        ]);
+        let paid = seq([acct.put(&from, acct.at(&from) - &n), acct.put(&to, acct.at(&to) + &n)]);
         (when(lt(acct.at(&from), &n), missing, paid), acct.at(&from))
     });
     bank.tx("audit", skip(), acct.sum());
@@ -32,8 +29,7 @@ fn teller(bank: &Service, first: usize) -> Result<usize, Fault> {
     let pay = bank.transaction("pay").expect("it is declared");
     let mut paid = 0;
     for turn in first..first + TRANSFERS {
-        let [from, to, n] =
-            [turn * 7 % ACCOUNTS, turn * 13 % ACCOUNTS, turn % 150].map(|one| one as i64);
+        let [from, to, n] = [turn * 7 % ACCOUNTS, turn * 13 % ACCOUNTS, turn % 150].map(|one| one as i64);
         match bank.atomically(pay, &[from, to, n]) {
             Ok(_left) => paid += 1,
             Err(Fault::Thrown(missing)) => assert!(missing > 0),
@@ -53,9 +49,8 @@ fn main() -> Result<(), Box<dyn Error>> {
     let is_open = AtomicBool::new(true);
     let paid: Result<Vec<usize>, Fault> = std::thread::scope(|scope| {
         let bank = &bank;
-        let tellers: Vec<_> = (0..THREADS)
-            .map(|i| scope.spawn(move || teller(bank, i * ACCOUNTS / THREADS)))
-            .collect();
+        let tellers: Vec<_> =
+            (0..THREADS).map(|i| scope.spawn(move || teller(bank, i * ACCOUNTS / THREADS))).collect();
         scope.spawn(|| {
             while is_open.load(Ordering::SeqCst) {
                 assert_eq!(bank.observe(audit, &[]), Ok(ACCOUNTS as i64 * EACH));
@@ -63,10 +58,7 @@ fn main() -> Result<(), Box<dyn Error>> {
         });
         let ended: Vec<_> = tellers.into_iter().map(|teller| teller.join()).collect();
         is_open.store(false, Ordering::SeqCst);
-        ended
-            .into_iter()
-            .map(|paid| paid.expect("a teller ends"))
-            .collect()
+        ended.into_iter().map(|paid| paid.expect("a teller ends")).collect()
     });
     bank.close();
     let last = (bank.file()?, bank.report()?);

@@ -5,9 +5,7 @@ use stm::{lt, retry, set, throw, var, when, Answer, Declare, End, Error, Outcome
 fn tell(what: &str, answer: Result<Answer, Error>) {
     match answer.map(|told| (told.ticket, told.end)) {
         Ok((_, End::Entered(entered))) => match entered.outcome {
-            Outcome::Returned(value) => {
-                println!("{what}: returned {value}, entry {}", entered.number)
-            }
+            Outcome::Returned(value) => println!("{what}: returned {value}, entry {}", entered.number),
             Outcome::Thrown(value) => println!("{what}: threw {value}, entry {}", entered.number),
             Outcome::Overflow | Outcome::DivideByZero | Outcome::Broken(_) | Outcome::Outside => {
                 println!("{what}: {:?}, entry {}", entered.outcome, entered.number)
@@ -25,11 +23,7 @@ fn main() -> Result<(), Error> {
     let pay = when(lt(&here, 60), throw(60), set(&here, var(&here) - 60));
     declare.tx("pay", pay, &here);
     declare.tx("put", set(&out, var(&out) + 1), &out);
-    declare.tx(
-        "get",
-        when(lt(&out, 1), retry(), set(&out, var(&out) - 1)),
-        &out,
-    );
+    declare.tx("get", when(lt(&out, 1), retry(), set(&out, var(&out) - 1)), &out);
     let program = declare.program()?;
     let number = |name| program.transaction(name).expect("it is declared");
     let (pay, put, get) = (number("pay"), number("put"), number("get"));

@@ -24,24 +24,12 @@ fn queue(from: State) -> Result<Program, stm::Error> {
     let served = queue.var("served", from.served);
     let longest = queue.var("longest", from.longest);
     queue.always("counted", and(le(0, &waiting), le(&waiting, &longest)));
-    let draw = || {
-        set(
-            &seed,
-            rem(var(&seed) * 1_103_515_245 + 12_345, 2_147_483_648),
-        )
-    };
+    let draw = || set(&seed, rem(var(&seed) * 1_103_515_245 + 12_345, 2_147_483_648));
     let grown = when(lt(&longest, &waiting), set(&longest, &waiting), skip());
-    let comes = when(
-        lt(rem(&seed, 3000), 2000),
-        seq([set(&waiting, var(&waiting) + 1), grown]),
-        skip(),
-    );
+    let comes = when(lt(rem(&seed, 3000), 2000), seq([set(&waiting, var(&waiting) + 1), grown]), skip());
     let goes = when(
         and(lt(rem(&seed, 4000), 3000), lt(0, &waiting)),
-        seq([
-            set(&waiting, var(&waiting) - 1),
-            set(&served, var(&served) + 1),
-        ]),
+        seq([set(&waiting, var(&waiting) - 1), set(&served, var(&served) + 1)]),
         skip(),
     );
     queue.tx("minute", seq([draw(), comes, draw(), goes]), &waiting);
@@ -78,12 +66,7 @@ fn present(store: &Store) -> State {
 }
 
 fn main() -> Result<(), stm::Error> {
-    let mut state = State {
-        seed: 42,
-        waiting: 0,
-        served: 0,
-        longest: 0,
-    };
+    let mut state = State { seed: 42, waiting: 0, served: 0, longest: 0 };
     let program = queue(state)?;
     let minute = program.transaction("minute").expect("it is declared");
     let store = Store::open_with_room(&program, 0, 0, MINUTES as usize)?;

@@ -21,10 +21,7 @@ struct Order<'a> {
 
 impl<'a> Order<'a> {
     fn new(future: impl Future<Output = Result<i64, Fault>> + 'a) -> Order<'a> {
-        Order {
-            future: Box::pin(future),
-            woken: Arc::new(Woken(AtomicBool::new(true))),
-        }
+        Order { future: Box::pin(future), woken: Arc::new(Woken(AtomicBool::new(true))) }
     }
 }
 
@@ -63,9 +60,7 @@ fn poll(orders: &mut Vec<Order<'_>>) -> Result<i64, Fault> {
 
 fn main() -> Result<(), Box<dyn std::error::Error>> {
     let shop = Service::open(SHOP)?;
-    let mut orders: Vec<_> = (0..ORDERS)
-        .map(|i| Order::new(order(&shop, i % 5 + 1)))
-        .collect();
+    let mut orders: Vec<_> = (0..ORDERS).map(|i| Order::new(order(&shop, i % 5 + 1))).collect();
     let mut paid = poll(&mut orders)?;
     println!("{} orders wait", orders.len());
     while !orders.is_empty() {
@@ -76,9 +71,6 @@ fn main() -> Result<(), Box<dyn std::error::Error>> {
     orders.push(Order::new(order(&shop, 1_000_000)));
     poll(&mut orders)?;
     orders.clear();
-    println!(
-        "one is taken back: {}",
-        shop.try_atomically(0, &[1]) == Err(Fault::Retries)
-    );
+    println!("one is taken back: {}", shop.try_atomically(0, &[1]) == Err(Fault::Retries));
     Ok(())
 }

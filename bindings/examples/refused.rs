@@ -9,14 +9,8 @@ const BANK: &str = "(var here 100) (var there 0)
 fn main() {
     match Service::open(BANK) {
         Ok(_bank) => println!("good"),
-        Err(Error::Refused {
-            line, column, text, ..
-        }) => {
-            println!(
-                "{text}\n{}\n{:>column$}",
-                BANK.lines().nth(line - 1).unwrap_or(""),
-                "^"
-            );
+        Err(Error::Refused { line, column, text, .. }) => {
+            println!("{text}\n{}\n{:>column$}", BANK.lines().nth(line - 1).unwrap_or(""), "^");
         }
         Err(error) => println!("{error}"),
     }

@@ -71,14 +71,9 @@ impl Wake for Job {
 /// A thread: it goes on with jobs that are ready.
 fn works(jobs: &[Mutex<Option<Task<'_>>>], ready: &Arc<Ready>) {
     while let Some(number) = ready.next() {
-        let waker = Waker::from(Arc::new(Job {
-            number,
-            ready: ready.clone(),
-        }));
+        let waker = Waker::from(Arc::new(Job { number, ready: ready.clone() }));
         let mut job = jobs[number].lock().unwrap();
-        let polled = job
-            .as_mut()
-            .map(|job| job.as_mut().poll(&mut Context::from_waker(&waker)));
+        let polled = job.as_mut().map(|job| job.as_mut().poll(&mut Context::from_waker(&waker)));
         if let Some(Poll::Ready(done)) = polled {
             done.expect("a job is done");
             *job = None;
@@ -103,20 +98,12 @@ fn main() -> Result<(), Error> {
     let places: Vec<Places> = (0..=JOBS).map(|_| Mutex::default()).collect();
     let ready = Arc::new(Ready::default());
     let jobs: Vec<Mutex<Option<Task<'_>>>> = (1..=JOBS)
-        .map(|number| {
-            Mutex::new(Some(
-                Box::pin(job(&service, number, &places[number])) as Task<'_>
-            ))
-        })
+        .map(|number| Mutex::new(Some(Box::pin(job(&service, number, &places[number])) as Task<'_>)))
         .collect();
     (0..JOBS).for_each(|number| ready.add(number));
     thread::scope(|scope| {
         (0..THREADS).for_each(|_| drop(scope.spawn(|| works(&jobs, &ready))));
-        while service
-            .report()
-            .map_or(0, |report| report.matches("\nparked ").count())
-            < JOBS
-        {
+        while service.report().map_or(0, |report| report.matches("\nparked ").count()) < JOBS {
             thread::yield_now();
         }
         println!("{JOBS} jobs wait");
@@ -125,15 +112,9 @@ fn main() -> Result<(), Error> {
         ready.ends();
     });
     drop(jobs);
-    let places: Vec<[u64; 2]> = places
-        .into_iter()
-        .map(|places| places.into_inner().unwrap())
-        .collect();
-    let is_in_order = |job: usize| {
-        needs(job)
-            .iter()
-            .all(|&other| other == 0 || places[other][1] < places[job][0])
-    };
+    let places: Vec<[u64; 2]> = places.into_iter().map(|places| places.into_inner().unwrap()).collect();
+    let is_in_order =
+        |job: usize| needs(job).iter().all(|&other| other == 0 || places[other][1] < places[job][0]);
     assert!((1..=JOBS).all(is_in_order));
     println!("{JOBS} jobs are done, each after those that it needs");
     service.close();

@@ -3,8 +3,7 @@
 
 use std::error::Error;
 use stm::{
-    and, eq, le, lt, rem, seq, set, skip, var, when, Declare, Fault, Service, ServiceOptions,
-    Verdict,
+    and, eq, le, lt, rem, seq, set, skip, var, when, Declare, Fault, Service, ServiceOptions, Verdict,
 };
 
 const MINUTES: u64 = 10_000_000;
@@ -15,28 +14,15 @@ const PARTS: u64 = 5;
 fn declared() -> Declare {
     let mut shop = Declare::new();
     let (seed, came) = (shop.var("seed", 42), shop.var("came", 0));
-    let (waiting, served, lost) = (
-        shop.var("waiting", 0),
-        shop.var("served", 0),
-        shop.var("lost", 0),
-    );
+    let (waiting, served, lost) = (shop.var("waiting", 0), shop.var("served", 0), shop.var("lost", 0));
     let more = |name| set(name, var(name) + 1);
     shop.always("counted", eq(&came, var(&waiting) + &served + &lost));
     shop.always("chairs", and(le(0, &waiting), le(&waiting, 5)));
-    let draw = || {
-        set(
-            &seed,
-            rem(var(&seed) * 1_103_515_245 + 12_345, 2_147_483_648),
-        )
-    };
+    let draw = || set(&seed, rem(var(&seed) * 1_103_515_245 + 12_345, 2_147_483_648));
     let sits = when(lt(&waiting, 5), more(&waiting), more(&lost));
     let comes = when(lt(rem(&seed, 3000), 2000), seq([more(&came), sits]), skip());
     let is_served = seq([set(&waiting, var(&waiting) - 1), more(&served)]);
-    let goes = when(
-        and(lt(0, &waiting), lt(rem(&seed, 4000), 2500)),
-        is_served,
-        skip(),
-    );
+    let goes = when(and(lt(0, &waiting), lt(rem(&seed, 4000), 2500)), is_served, skip());
     shop.tx("minute", seq([draw(), comes, draw(), goes]), &waiting);
     shop
 }
@@ -73,16 +59,12 @@ fn run(shop: &Service, minutes: u64) -> Result<(), Fault> {
 /// How many KB of memory the process has; 0 where the system does not say.
 fn resident() -> i64 {
     let status = std::fs::read_to_string("/proc/self/status").unwrap_or_default();
-    let told = status
-        .lines()
-        .find_map(|line| line.strip_prefix("VmRSS:")?.split_whitespace().next());
+    let told = status.lines().find_map(|line| line.strip_prefix("VmRSS:")?.split_whitespace().next());
     told.and_then(|size| size.parse().ok()).unwrap_or(0)
 }
 
 fn main() -> Result<(), Box<dyn Error>> {
-    let minutes = std::env::args()
-        .nth(1)
-        .map_or(Ok(MINUTES), |word| word.parse())?;
+    let minutes = std::env::args().nth(1).map_or(Ok(MINUTES), |word| word.parse())?;
     // A chapter whose journal is not good is not left: then a call finds no room, and the simulation ends.
     let options = ServiceOptions::new().on_chapter(|file, report| match stm::check(file, report) {
         Ok(Verdict::Good) => Ok(()),

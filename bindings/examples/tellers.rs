@@ -8,10 +8,7 @@ fn main() -> Result<(), stm::Error> {
     declare.tx_with("pay", ["from", "to", "n"], |[from, to, n]| {
         let refuse = when(lt(acct.at(&from), &n), throw(&n), skip());
         let take = acct.put(&from, acct.at(&from) - &n);
-        (
-            seq([refuse, take, acct.put(&to, acct.at(&to) + &n)]),
-            acct.at(&from),
-        )
+        (seq([refuse, take, acct.put(&to, acct.at(&to) + &n)]), acct.at(&from))
     });
     let bank = declare.service()?;
     let pay = bank.transaction("pay").expect("it is declared");

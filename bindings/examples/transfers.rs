@@ -13,10 +13,7 @@ fn declared() -> Declare {
     let acct = bank.table("acct", ACCOUNTS, EACH);
     bank.tx_with("pay", ["from", "to", "n"], |[from, to, n]| {
         let missing = throw(param(&n) - acct.at(&from));
-        let paid = seq([
-            acct.put(&from, acct.at(&from) - &n),
-            acct.put(&to, acct.at(&to) + &n),
-        ]);
+        let paid = seq([acct.put(&from, acct.at(&from) - &n), acct.put(&to, acct.at(&to) + &n)]);
         (when(lt(acct.at(&from), &n), missing, paid), acct.at(&from))
     });
     bank.tx("audit", skip(), acct.sum());
@@ -27,8 +24,7 @@ fn declared() -> Declare {
 fn teller(bank: &Service, first: usize) {
     let pay = bank.transaction("pay").expect("it is declared");
     for turn in first..first + TRANSFERS {
-        let arguments =
-            [turn * 7 % ACCOUNTS, turn * 13 % ACCOUNTS, turn % 150].map(|number| number as i64);
+        let arguments = [turn * 7 % ACCOUNTS, turn * 13 % ACCOUNTS, turn % 150].map(|number| number as i64);
         match bank.atomically(pay, &arguments) {
             Ok(_left) => {}
             Err(Fault::Thrown(missing)) => assert!(missing > 0),
@@ -42,18 +38,13 @@ fn main() -> Result<(), Error> {
     let audit = bank.transaction("audit").expect("it is declared");
     std::thread::scope(|scope| {
         let (bank, begin) = (&bank, |i| i * ACCOUNTS / TELLERS);
-        let tellers: Vec<_> = (0..TELLERS)
-            .map(|i| scope.spawn(move || teller(bank, begin(i))))
-            .collect();
+        let tellers: Vec<_> = (0..TELLERS).map(|i| scope.spawn(move || teller(bank, begin(i)))).collect();
         while !tellers.iter().all(|one| one.is_finished()) {
             assert_eq!(bank.observe(audit, &[]), Ok(ACCOUNTS as i64 * EACH));
         }
     });
     println!("{} transfers, each paid or refused", bank.entered());
-    println!(
-        "all accounts have {}",
-        bank.observe(audit, &[]).expect("it returns")
-    );
+    println!("all accounts have {}", bank.observe(audit, &[]).expect("it returns"));
     let mut balances = [0; ACCOUNTS];
     assert_eq!(bank.cells(0, 0, &mut balances), Some(ACCOUNTS));
     assert!(balances.iter().all(|balance| *balance >= 0));

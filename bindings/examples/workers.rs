@@ -7,8 +7,8 @@
 
 use std::sync::atomic::{AtomicBool, Ordering};
 use stm::{
-    and, eq, le, lt, seq, set, skip, sum, throw, var, when, Declare, End, Error, Job, Outcome,
-    Program, Store, Var, Worker,
+    and, eq, le, lt, seq, set, skip, sum, throw, var, when, Declare, End, Error, Job, Outcome, Program,
+    Store, Var, Worker,
 };
 
 const ACCOUNTS: usize = 8;
@@ -18,23 +18,16 @@ const THREADS: usize = 4;
 
 fn bank() -> Result<Program, Error> {
     let mut bank = Declare::new();
-    let accounts: Vec<Var> = (0..ACCOUNTS)
-        .map(|i| bank.var(&format!("account{i}"), EACH))
-        .collect();
+    let accounts: Vec<Var> = (0..ACCOUNTS).map(|i| bank.var(&format!("account{i}"), EACH)).collect();
     let total = ACCOUNTS as i64 * EACH;
     bank.always("total", eq(sum(&accounts), total));
-    let solvent = accounts[1..]
-        .iter()
-        .fold(le(0, &accounts[0]), |all, one| and(all, le(0, one)));
+    let solvent = accounts[1..].iter().fold(le(0, &accounts[0]), |all, one| and(all, le(0, one)));
     bank.always("solvent", solvent);
     let mut transfers = Vec::new();
     for from in 0..ACCOUNTS {
         let (payer, payee) = (&accounts[from], &accounts[(from + 3) % ACCOUNTS]);
         let amount = 7 + from as i64;
-        let move_money = seq([
-            set(payer, var(payer) - amount),
-            set(payee, var(payee) + amount),
-        ]);
+        let move_money = seq([set(payer, var(payer) - amount), set(payee, var(payee) + amount)]);
         let body = when(lt(var(payer), amount), throw(amount), move_money);
         transfers.push(bank.tx(&format!("transfer{from}"), body, var(payer)));
     }
@@ -115,40 +108,21 @@ fn main() -> Result<(), Error> {
     let (audits, answered) = std::thread::scope(|scope| {
         let watching = scope.spawn(|| watch(&mut auditor, audit, &is_open));
         let opened = Opened(&is_open);
-        let working: Vec<_> = tellers
-            .iter_mut()
-            .map(|teller| scope.spawn(|| serve(&store, teller)))
-            .collect();
+        let working: Vec<_> =
+            tellers.iter_mut().map(|teller| scope.spawn(|| serve(&store, teller))).collect();
         let mut answered = Answered::default();
         for teller in working {
             let Answered { paid, refused } = teller.join().expect("a teller ends")?;
-            answered = Answered {
-                paid: answered.paid + paid,
-                refused: answered.refused + refused,
-            };
+            answered = Answered { paid: answered.paid + paid, refused: answered.refused + refused };
         }
         drop(opened);
         Ok::<_, Error>((watching.join().expect("the auditor ends")?, answered))
     })?;
     let report = store.report()?;
     assert!(audits > 0);
-    let told = |word| {
-        report
-            .lines()
-            .filter(|line| line.split(' ').nth(4) == Some(word))
-            .count() as u32
-    };
-    assert_eq!(
-        answered,
-        Answered {
-            paid: told("returned"),
-            refused: told("threw")
-        }
-    );
-    println!(
-        "{} transfers, each paid or refused",
-        answered.paid + answered.refused
-    );
+    let told = |word| report.lines().filter(|line| line.split(' ').nth(4) == Some(word)).count() as u32;
+    assert_eq!(answered, Answered { paid: told("returned"), refused: told("threw") });
+    println!("{} transfers, each paid or refused", answered.paid + answered.refused);
     println!("{:?}", stm::check(program.text(), &report)?);
     Ok(())
 }

@@ -233,8 +233,7 @@ fn a_chapter_that_is_not_kept_is_told_again_when_the_next_one_is_full() {
 fn failing(times: u32, room: usize) -> (Service, Arc<AtomicU32>) {
     let tries = Arc::new(AtomicU32::new(0));
     let own = tries.clone();
-    let keep =
-        move |_: &str, _: &str| if own.fetch_add(1, Ordering::SeqCst) < times { Err(()) } else { Ok(()) };
+    let keep = move |_: &str, _: &str| if own.fetch_add(1, Ordering::SeqCst) < times { Err(()) } else { Ok(()) };
     (Service::open_with(TEXT, ServiceOptions::new().room(room).on_chapter(keep)).unwrap(), tries)
 }
 
@@ -270,8 +269,7 @@ fn the_closure_may_call() {
         let service = own.lock().unwrap().upgrade().unwrap();
         let is_first = tell.lock().unwrap().is_empty();
         if is_first {
-            let answers =
-                [service.atomically(0, &[]), service.atomically(0, &[]), service.try_atomically(0, &[])];
+            let answers = [service.atomically(0, &[]), service.atomically(0, &[]), service.try_atomically(0, &[])];
             tell.lock().unwrap().push((answers, service.chapter()));
         }
         Ok::<(), ()>(())

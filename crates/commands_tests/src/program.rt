@@ -187,7 +187,7 @@ fn each_way_to_end_has_its_status_and_writes(rt: HostRuntime) {
     assert!(rt; line_ends(&rt, rt.alloc(), b"stm run a\xffb.stm", how, told));
 }
 
-/// What cannot be read or written is 4, and want of memory 5. How the file reads and the output writes, how the process
+/// What cannot be read or written is 4, and out of memory 5. How the file reads and the output writes, how the process
 /// ends then, and of which command lines.
 const FAILS: &[((Reads, Prints), (u8, u32, &str), &[&str])] = &[
     (
