@@ -3,7 +3,6 @@
 
 use crate::parts::{X, Y, catalogue};
 use std::alloc::Global;
-use std::process::Abort;
 use txn::{Catalogue, TaskId, VarId};
 use world::World;
 use world_law::{Event, Seen};
@@ -20,75 +19,102 @@ const DROPPED: u32 = 10;
 
 const WRITER: TaskId = TaskId(20);
 
-/// Each task begins and reads the first variable, and the one that sets both asks to commit.
-fn begin(rt: &impl Abort, world: &mut World<'_>) {
+/// Whether the event is seen so.
+fn sees(world: &mut World<'_>, event: Event, seen: Seen) -> bool {
+    world.step(event) == Ok(seen)
+}
+
+/// Whether the task's attempt loads two of the words that it reads of the variable.
+fn loads_two(world: &mut World<'_>, task: TaskId, x: VarId) -> bool {
+    sees(world, Event::First(task, x), Seen::Loaded)
+        && sees(world, Event::Value(task), Seen::Loaded)
+}
+
+/// Whether the task begins and reads the first variable.
+fn begins(world: &mut World<'_>, task: TaskId) -> bool {
+    sees(world, Event::Begin(task), Seen::Needs(X))
+        && loads_two(world, task, X)
+        && sees(world, Event::Second(task), Seen::Needs(Y))
+}
+
+/// Whether each task begins and reads the first variable, and the one that sets both asks to commit.
+fn begin(world: &mut World<'_>) -> bool {
     for task in 0..READERS {
-        assert!(rt; world.step(Event::Begin(TaskId(task))) == Ok(Seen::Needs(X)));
-        loads_two(rt, world, TaskId(task), X);
-        assert!(rt; world.step(Event::Second(TaskId(task))) == Ok(Seen::Needs(Y)));
+        if !begins(world, TaskId(task)) {
+            return false;
+        }
     }
-    assert!(rt; world.step(Event::Begin(WRITER)).is_ok());
-    assert!(rt; world.step(Event::Ask(WRITER)) == Ok(Seen::Commits(1)));
+    world.step(Event::Begin(WRITER)).is_ok() && sees(world, Event::Ask(WRITER), Seen::Commits(1))
 }
 
-/// The task's attempt loads two of the words that it reads of the variable.
-fn loads_two(rt: &impl Abort, world: &mut World<'_>, task: TaskId, x: VarId) {
-    assert!(rt; world.step(Event::First(task, x)) == Ok(Seen::Loaded));
-    assert!(rt; world.step(Event::Value(task)) == Ok(Seen::Loaded));
+/// Whether the task's attempt is stale at the second variable, runs again, and finds the first one changed.
+fn runs_again(world: &mut World<'_>, task: TaskId) -> bool {
+    sees(world, Event::Second(task), Seen::Stale)
+        && sees(world, Event::Again(task), Seen::Checks(X))
+        && loads_two(world, task, X)
+        && sees(world, Event::Second(task), Seen::Changed)
 }
 
-/// The task's attempt is stale at the second variable, runs again, and finds the first one changed.
-fn runs_again(rt: &impl Abort, world: &mut World<'_>, task: TaskId) {
-    assert!(rt; world.step(Event::Second(task)) == Ok(Seen::Stale));
-    assert!(rt; world.step(Event::Again(task)) == Ok(Seen::Checks(X)));
-    loads_two(rt, world, task, X);
-    assert!(rt; world.step(Event::Second(task)) == Ok(Seen::Changed));
-}
-
-/// The others load two words of the second variable each, the commit makes its stores, and some of
-/// them are dropped, where the others run again.
-fn go_on(rt: &impl Abort, world: &mut World<'_>) {
+/// Whether each of the others loads two words of the second variable.
+fn load_two_each(world: &mut World<'_>) -> bool {
     for task in 0..READERS {
-        loads_two(rt, world, TaskId(task), Y);
+        if !loads_two(world, TaskId(task), Y) {
+            return false;
+        }
     }
+    true
+}
+
+/// Whether the commit makes its stores.
+fn commits(world: &mut World<'_>) -> bool {
     for _ in 0..6u32 {
-        assert!(rt; world.step(Event::Word) == Ok(Seen::Stored));
+        if !sees(world, Event::Word, Seen::Stored) {
+            return false;
+        }
     }
-    assert!(rt; world.step(Event::Word) == Ok(Seen::Committed(1)));
-    for task in 0..DROPPED {
-        assert!(rt; world.step(Event::Drop(TaskId(task))) == Ok(Seen::Dropped));
-    }
-    for task in DROPPED..READERS {
-        runs_again(rt, world, TaskId(task));
-    }
+    sees(world, Event::Word, Seen::Committed(1))
 }
 
-fn play(rt: &impl Abort, alloc: Global, goes_on: bool) {
-    let catalogue = catalogue(rt, alloc, FILE);
-    play_over(rt, alloc, &catalogue, goes_on);
+/// Whether some of the others are dropped, and the rest run again.
+fn are_dropped_or_run_again(world: &mut World<'_>) -> bool {
+    for task in 0..READERS {
+        let is_so = if task < DROPPED {
+            sees(world, Event::Drop(TaskId(task)), Seen::Dropped)
+        } else {
+            runs_again(world, TaskId(task))
+        };
+        if !is_so {
+            return false;
+        }
+    }
+    true
 }
 
-/// The same in a world of this catalogue.
-fn play_over(rt: &impl Abort, alloc: Global, catalogue: &Catalogue, goes_on: bool) {
+fn goes_on(world: &mut World<'_>) -> bool {
+    load_two_each(world) && commits(world) && are_dropped_or_run_again(world)
+}
+
+/// Whether all begin in a world of this catalogue, and go on where that is said.
+fn plays_over(alloc: Global, catalogue: &Catalogue, is_more: bool) -> bool {
     match World::open(alloc, catalogue) {
-        Ok(mut world) => play_in(rt, &mut world, goes_on),
-        Err(_) => panic!(rt; "no world"),
+        Ok(mut world) => begin(&mut world) && (!is_more || goes_on(&mut world)),
+        Err(_) => false,
     }
 }
 
-fn play_in(rt: &impl Abort, world: &mut World<'_>, goes_on: bool) {
-    begin(rt, world);
-    if goes_on {
-        go_on(rt, world);
+fn plays(alloc: Global, is_more: bool) -> bool {
+    match catalogue(alloc, FILE) {
+        Some(catalogue) => plays_over(alloc, &catalogue, is_more),
+        None => false,
     }
 }
 
 #[test]
 fn stays(rt: HostRuntime) {
-    play(&rt, rt.alloc(), false);
+    assert!(rt; plays(rt.alloc(), false));
 }
 
 #[test]
 fn moves(rt: HostRuntime) {
-    play(&rt, rt.alloc(), true);
+    assert!(rt; plays(rt.alloc(), true));
 }

@@ -5,8 +5,6 @@
 #[cfg(test)]
 mod counted;
 #[cfg(test)]
-mod limits;
-#[cfg(test)]
 mod moves;
 #[cfg(test)]
 mod parts;
@@ -16,7 +14,5 @@ mod scripts;
 mod seen;
 #[cfg(test)]
 mod telling;
-#[cfg(test)]
-mod texts;
 #[cfg(test)]
 mod uses;

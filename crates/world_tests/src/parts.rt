@@ -1,10 +1,8 @@
 //! The catalogues of the tests, and the names in them.
 
 use std::alloc::Global;
-use std::process::Abort;
-use txn::{Catalogue, Outcome, TaskId, VarId};
+use txn::{Catalogue, TaskId, VarId};
 use txn_text::read_file;
-use world_law::Seen;
 
 pub(crate) const X: VarId = VarId(0);
 
@@ -21,15 +19,10 @@ pub(crate) const PAIR: &str =
 /// One task, which retries.
 pub(crate) const RETRIES: &str = "(tx t (orelse (retry) (retry)) 0)(run t 1)";
 
-/// The catalogue of a text.
-pub(crate) fn catalogue(rt: &impl Abort, alloc: Global, text: &str) -> Catalogue {
+/// The catalogue of a text, `None` where it is no file or memory is refused.
+pub(crate) fn catalogue(alloc: Global, text: &str) -> Option<Catalogue> {
     match read_file(alloc, text.as_bytes()) {
-        Ok(catalogue) => catalogue,
-        Err(_) => panic!(rt; "no catalogue"),
+        Ok(catalogue) => Some(catalogue),
+        Err(_) => None,
     }
-}
-
-/// What is seen of an attempt that returned.
-pub(crate) fn returned(value: i64) -> Seen {
-    Seen::Ended(Outcome::Returned(value))
 }

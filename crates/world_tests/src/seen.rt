@@ -61,12 +61,6 @@ fn first_wrong(alloc: Global, catalogue: &Catalogue) -> Option<usize> {
     None
 }
 
-#[test]
-fn each_has_its_line(rt: HostRuntime) {
-    let two = catalogue(&rt, rt.alloc(), TWO);
-    assert_eq!(rt; first_wrong(rt.alloc(), &two), None);
-}
-
 /// Whether two lines, one behind the other, are these.
 fn are_lines(alloc: Global, catalogue: &Catalogue, lines: &str) -> bool {
     let mut text = String::new(alloc);
@@ -75,9 +69,19 @@ fn are_lines(alloc: Global, catalogue: &Catalogue, lines: &str) -> bool {
         && text.as_str() == lines
 }
 
+/// Whether that is so of a catalogue without a variable.
+fn go_behind(alloc: Global) -> bool {
+    match catalogue(alloc, "") {
+        Some(none) => are_lines(alloc, &none, "1 memory\n18446744073709551615 idle\n"),
+        None => false,
+    }
+}
+
 #[test]
-fn lines_go_behind_one_another(rt: HostRuntime) {
-    let none = catalogue(&rt, rt.alloc(), "");
-    let lines = "1 memory\n18446744073709551615 idle\n";
-    assert!(rt; are_lines(rt.alloc(), &none, lines));
+fn each_has_its_line(rt: HostRuntime) {
+    match catalogue(rt.alloc(), TWO) {
+        Some(two) => assert_eq!(rt; first_wrong(rt.alloc(), &two), None),
+        None => panic!(rt; "no catalogue"),
+    }
+    assert!(rt; go_behind(rt.alloc()));
 }

@@ -1,10 +1,11 @@
 //! What a world tells of itself.
 
-use crate::parts::{A, B, PAIR, X, Y};
-use crate::scripts::{Script, expect, plays};
-use txn::{Move, TaskId, VarId};
+use crate::parts::{A, B, PAIR, RETRIES, X, Y};
+use crate::scripts::{Row, Script, plays};
+use std::alloc::Global;
+use txn::{Move, Outcome, TaskId, VarId};
 use world::World;
-use world_law::Fate;
+use world_law::{Event, Fate, Seen};
 
 /// Whether the history has these states, in each of which both variables have this value.
 pub(crate) fn has_history(world: &World<'_>, wanted: &[i64]) -> bool {
@@ -39,13 +40,33 @@ pub(crate) fn has_log(world: &World<'_>, variable: VarId, value: i64) -> bool {
     world.attempts() > 0 && world.attempt(0).log == [(variable, value)].as_slice()
 }
 
-#[test]
-fn a_world_that_opens(rt: HostRuntime) {
-    expect(&rt, rt.alloc(), PAIR, Script::Tells(&[], &[], &[1]));
+/// Whether the last lines of the world are these.
+pub(crate) fn has_text(world: &World<'_>, wanted: &str) -> bool {
+    match world.text() {
+        Ok(text) => text.as_str() == wanted,
+        Err(_) => false,
+    }
+}
+
+/// Whether the last lines of the world are put behind another text.
+pub(crate) fn is_put_behind(alloc: Global, world: &World<'_>, wanted: &str) -> bool {
+    let mut text = String::new(alloc);
+    text.push_str("1 idle\n").is_ok()
+        && world.put_text(&mut text).is_ok()
+        && text.starts_with("1 idle\n")
+        && text.ends_with(wanted)
+        && text.len() == 7usize.saturating_add(wanted.len())
+}
+
+/// Whether a run of a task and its end leave their text, and the task begins again.
+pub(crate) fn runs_and_begins(world: &mut World<'_>) -> bool {
+    world.run(&[Event::Begin(A), Event::Drop(A)]) == Ok(())
+        && has_text(world, "now 0\nattempt 0 0 dropped\nend\n")
+        && world.step(Event::Begin(A)) == Ok(Seen::Ended(Outcome::Retries))
 }
 
 /// One task reads x, the other commits, and the first reads y and begins anew.
-const TORN: [Move; 6] = [
+const TORN: &[Move] = &[
     Move::Begin(A),
     Move::Read(A, X),
     Move::Begin(B),
@@ -55,20 +76,14 @@ const TORN: [Move; 6] = [
 ];
 
 /// What becomes of those.
-const BEGUN: [(TaskId, u64, Fate); 3] = [
+const BEGUN: &[(TaskId, u64, Fate)] = &[
     (A, 0, Fate::Stale),
     (B, 0, Fate::Committed(1)),
     (A, 1, Fate::Running),
 ];
 
-#[test]
-fn a_commit_between_two_reads(rt: HostRuntime) {
-    expect(&rt, rt.alloc(), PAIR, Script::Tells(&TORN, &BEGUN, &[1, 2]));
-    expect(&rt, rt.alloc(), PAIR, Script::Reads(&TORN));
-}
-
 /// A commit up to the store before that of the clock.
-const BEFORE: [Move; 6] = [
+const BEFORE: &[Move] = &[
     Move::Begin(B),
     Move::Ask(B),
     Move::Word,
@@ -77,15 +92,36 @@ const BEFORE: [Move; 6] = [
     Move::Word,
 ];
 
-/// Whether the history grows at the store of the clock, and not before.
+/// Whether the history grows at the store of the clock, and not before; so do the last lines, also where words hold
+/// other values already.
 pub(crate) fn grows_at_the_clock(world: &mut World<'_>) -> bool {
-    plays(world, &BEFORE)
+    plays(world, BEFORE)
         && has_history(world, &[1])
+        && has_text(world, "now 0\nx 1 0\ny 1 0\nattempt 1 0 running\nend\n")
         && plays(world, &[Move::Word])
         && has_history(world, &[1, 2])
+        && has_text(world, "now 1\nx 2 1\ny 2 1\nattempt 1 0 running\nend\n")
 }
 
-#[test]
-fn a_commit_store_by_store(rt: HostRuntime) {
-    expect(&rt, rt.alloc(), PAIR, Script::Grows);
-}
+/// The last lines of the world of the pair as it opens.
+const OPENED: &str = "now 0\nx 1 0\ny 1 0\nend\n";
+
+const TORN_TEXT: &str =
+    "now 1\nx 2 1\ny 2 1\nattempt 0 0 stale x 1\nattempt 1 0 committed 1\nattempt 0 1 running\nend\n";
+
+pub(crate) const ROWS: &[Row] = &[
+    (
+        "a world that opens",
+        PAIR,
+        Script::Tells(&[], &[], &[1], OPENED),
+    ),
+    (
+        "a commit between two reads",
+        PAIR,
+        Script::Tells(TORN, BEGUN, &[1, 2], TORN_TEXT),
+    ),
+    ("what was read is told", PAIR, Script::Reads(TORN)),
+    ("a commit store by store", PAIR, Script::Grows),
+    ("behind another text", "", Script::Behind("now 0\nend\n")),
+    ("a run and then a step", RETRIES, Script::Runs),
+];
