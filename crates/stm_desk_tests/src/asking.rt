@@ -1,27 +1,12 @@
 //! Calls that wait, and are told.
 
-use std::alloc::Global;
 use stm_desk::{Answer, Asked, Desk};
-use stm_store::{Program, Refused, Store, Ticket, Way};
+use stm_store::{Refused, Ticket, Way};
 use txn::{Outcome, TxId};
-
-/// A buffer for one number.
-const BUFFER: &[u8] =
-    b"(var n 0) (tx get (if (eq n 0) (retry) (set n 0)) 7) (tx put (if (eq n 0) (set n 1) (retry)) 8)";
 
 pub(crate) const GET: TxId = TxId(0);
 
 pub(crate) const PUT: TxId = TxId(1);
-
-pub(crate) fn opened(alloc: Global, room: usize) -> Option<Desk> {
-    let program = Program::read(alloc, BUFFER).ok()?;
-    let tasks = program.catalogue().tasks();
-    if tasks != 0 || room > 100 {
-        return None;
-    }
-    let store = Store::open_with_room(alloc, program, 0, 0, room).ok()?;
-    Some(Desk::open(alloc, store, Vec::new(alloc)))
-}
 
 /// The entry of this number in the first chapter.
 pub(crate) fn entry(ticket: u64, value: i64, entry: u64, place: u64) -> Answer {
@@ -34,76 +19,59 @@ pub(crate) fn entry(ticket: u64, value: i64, entry: u64, place: u64) -> Answer {
     }
 }
 
-#[test]
-fn who_waits_is_told_once(rt: HostRuntime) {
-    let Some(mut desk) = opened(rt.alloc(), 9) else {
-        panic!(rt; "the desk opens");
-    };
-    assert_eq!(rt;
-        desk.ask(GET, &[], Way::Waits, 40),
-        Ok(Asked::Waits(Ticket(0)))
-    );
-    assert!(rt; desk.told().is_none());
-    assert_eq!(rt;
-        desk.ask(PUT, &[], Way::Waits, 41),
-        Ok(Asked::Ended(entry(1, 8, 1, 0)))
-    );
-    let Some(told) = desk.told() else {
-        panic!(rt; "the first call was woken");
-    };
-    assert_eq!(rt; (told.whose, told.ticket), (40, Ticket(0)));
-    assert_eq!(rt; told.answer, Ok(entry(0, 7, 2, 1)));
-    assert!(rt; desk.told().is_none());
-    assert_eq!(rt; desk.store().value("n"), Some((0, 2)));
+/// Whether a call that waits is answered so.
+pub(crate) fn asks(desk: &mut Desk, tx: TxId, whose: u64, answer: Result<Asked, Refused>) -> bool {
+    desk.ask(tx, &[], Way::Waits, whose) == answer
 }
 
-#[test]
-fn who_leaves_is_not_entered(rt: HostRuntime) {
-    let Some(mut desk) = opened(rt.alloc(), 9) else {
-        panic!(rt; "the desk opens");
-    };
-    assert_eq!(rt;
-        desk.ask(GET, &[], Way::Waits, 40),
-        Ok(Asked::Waits(Ticket(0)))
-    );
-    assert_eq!(rt; desk.leave(Ticket(0)), Ok(()));
-    assert_eq!(rt; desk.leave(Ticket(0)), Err(Refused::Gone));
-    assert_eq!(rt;
-        desk.ask(PUT, &[], Way::Waits, 41),
-        Ok(Asked::Ended(entry(1, 8, 1, 1)))
-    );
-    assert!(rt; desk.told().is_none());
+/// Whether a call that tries is answered so.
+pub(crate) fn tries(desk: &mut Desk, tx: TxId, whose: u64, answer: Result<Asked, Refused>) -> bool {
+    desk.ask(tx, &[], Way::Tries, whose) == answer
 }
 
-#[test]
-fn what_is_closed_takes_no_call(rt: HostRuntime) {
-    let Some(mut desk) = opened(rt.alloc(), 9) else {
-        panic!(rt; "the desk opens");
-    };
-    assert_eq!(rt; desk.ask(GET, &[], Way::Tries, 40), Err(Refused::Retries));
-    assert_eq!(rt;
-        desk.ask(GET, &[], Way::Waits, 40),
-        Ok(Asked::Waits(Ticket(0)))
-    );
+/// Whether who waited with the first ticket, 40, is told this next.
+fn tells_first(desk: &mut Desk, answer: Result<Answer, Refused>) -> bool {
+    match desk.told() {
+        Some(told) => told.whose == 40 && told.ticket == Ticket(0) && told.answer == answer,
+        None => false,
+    }
+}
+
+/// Who waits is told once.
+pub(crate) fn tells_once(desk: &mut Desk) -> bool {
+    asks(desk, GET, 40, Ok(Asked::Waits(Ticket(0))))
+        && desk.told().is_none()
+        && asks(desk, PUT, 41, Ok(Asked::Ended(entry(1, 8, 1, 0))))
+        && tells_first(desk, Ok(entry(0, 7, 2, 1)))
+        && desk.told().is_none()
+        && desk.store().value("n") == Some((0, 2))
+}
+
+/// Who leaves is not entered.
+pub(crate) fn leaves(desk: &mut Desk) -> bool {
+    asks(desk, GET, 40, Ok(Asked::Waits(Ticket(0))))
+        && desk.leave(Ticket(0)) == Ok(())
+        && desk.leave(Ticket(0)) == Err(Refused::Gone)
+        && asks(desk, PUT, 41, Ok(Asked::Ended(entry(1, 8, 1, 1))))
+        && desk.told().is_none()
+}
+
+/// What is closed takes no call.
+pub(crate) fn closes(desk: &mut Desk) -> bool {
+    if !tries(desk, GET, 40, Err(Refused::Retries))
+        || !asks(desk, GET, 40, Ok(Asked::Waits(Ticket(0))))
+    {
+        return false;
+    }
     desk.close();
-    let Some(told) = desk.told() else {
-        panic!(rt; "the call that waits is told");
-    };
-    assert_eq!(rt; (told.whose, told.ticket), (40, Ticket(0)));
-    assert_eq!(rt; told.answer, Err(Refused::Closed));
-    assert_eq!(rt; desk.ask(PUT, &[], Way::Waits, 41), Err(Refused::Closed));
-    assert_eq!(rt; desk.leave(Ticket(0)), Err(Refused::Gone));
+    tells_first(desk, Err(Refused::Closed))
+        && asks(desk, PUT, 41, Err(Refused::Closed))
+        && desk.leave(Ticket(0)) == Err(Refused::Gone)
 }
 
-#[test]
-fn what_cannot_be_called_is_unknown(rt: HostRuntime) {
-    let Some(mut desk) = opened(rt.alloc(), 0) else {
-        panic!(rt; "the desk opens");
-    };
-    assert_eq!(rt;
-        desk.ask(TxId(2), &[], Way::Waits, 0),
-        Err(Refused::Unknown)
-    );
-    assert_eq!(rt; desk.ask(GET, &[1], Way::Waits, 0), Err(Refused::Unknown));
-    assert_eq!(rt; desk.ask(GET, &[], Way::Waits, 0), Err(Refused::NoRoom));
+/// What cannot be called is unknown, and what can has no room.
+pub(crate) fn knows(desk: &mut Desk) -> bool {
+    asks(desk, TxId(2), 0, Err(Refused::Unknown))
+        && desk.ask(GET, &[1], Way::Waits, 0) == Err(Refused::Unknown)
+        && asks(desk, GET, 0, Err(Refused::NoRoom))
 }

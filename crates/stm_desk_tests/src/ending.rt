@@ -1,8 +1,8 @@
 //! Chapters that end.
 
-use crate::asking::{GET, PUT, entry, opened};
+use crate::asking::{GET, PUT, asks, entry};
 use stm_desk::{Answer, Asked, Desk, Ended};
-use stm_store::{Refused, Ticket, Way};
+use stm_store::{Refused, Ticket};
 
 /// The entry of this chapter.
 fn entry_in(chapter: u64, ticket: u64, value: i64, number: u64, place: u64) -> Answer {
@@ -18,13 +18,17 @@ fn entry_in(chapter: u64, ticket: u64, value: i64, number: u64, place: u64) -> A
 
 /// Whether the call of a desk that has room for two is answered that the chapter is full.
 fn is_full(desk: &mut Desk) -> bool {
-    desk.ask(GET, &[], Way::Waits, 42) == Ok(Asked::ChapterFull)
+    asks(desk, GET, 42, Ok(Asked::ChapterFull))
 }
 
 /// The room for two is used up: the first call is entered, and the second waits.
 fn fill(desk: &mut Desk, chapter: u64) -> bool {
-    desk.ask(PUT, &[], Way::Waits, 40) == Ok(Asked::Ended(entry_in(chapter, 0, 8, 1, 0)))
-        && desk.ask(PUT, &[], Way::Waits, 41) == Ok(Asked::Waits(Ticket(1)))
+    asks(
+        desk,
+        PUT,
+        40,
+        Ok(Asked::Ended(entry_in(chapter, 0, 8, 1, 0))),
+    ) && asks(desk, PUT, 41, Ok(Asked::Waits(Ticket(1))))
 }
 
 /// Whether it is the chapter of this number.
@@ -57,25 +61,17 @@ fn tells(desk: &mut Desk, answer: Answer) -> bool {
 }
 
 /// Who waits in a full chapter is entered in the next one, with its ticket.
-fn comes_over(desk: &mut Desk) -> bool {
+pub(crate) fn comes_over(desk: &mut Desk) -> bool {
     let got = Ok(Asked::Ended(entry_in(1, 2, 7, 1, 1)));
     fill(desk, 0)
         && is_full(desk)
         && turns(desk, 0)
         && desk.told().is_none()
-        && desk.ask(GET, &[], Way::Waits, 42) == got
+        && asks(desk, GET, 42, got)
         && tells(desk, entry_in(1, 1, 8, 2, 2))
         && turns(desk, 1)
         && turns(desk, 2)
         && desk.store().chapter() == 3
-}
-
-#[test]
-fn who_waits_is_entered_in_the_next_chapter(rt: HostRuntime) {
-    match opened(rt.alloc(), 2) {
-        Some(mut desk) => assert!(rt; comes_over(&mut desk)),
-        None => panic!(rt; "the desk opens"),
-    }
 }
 
 /// While the host has a chapter no other one ends, and what is full waits for the host.
@@ -92,41 +88,25 @@ fn is_out_once(desk: &mut Desk) -> bool {
 }
 
 /// A full chapter has no room while one lies there that was not kept.
-fn is_given_again(desk: &mut Desk) -> bool {
+pub(crate) fn is_given_again(desk: &mut Desk) -> bool {
     is_out_once(desk)
-        && desk.ask(GET, &[], Way::Waits, 42) == Err(Refused::NoRoom)
+        && asks(desk, GET, 42, Err(Refused::NoRoom))
         && turns(desk, 0)
         && is_full(desk)
         && turns(desk, 1)
         && desk.store().chapter() == 2
 }
 
-#[test]
-fn what_was_not_kept_is_given_again(rt: HostRuntime) {
-    match opened(rt.alloc(), 2) {
-        Some(mut desk) => assert!(rt; is_given_again(&mut desk)),
-        None => panic!(rt; "the desk opens"),
-    }
-}
-
 /// Where each place is of a task that waits a new chapter makes no room.
-fn stays_full(desk: &mut Desk) -> bool {
-    desk.ask(GET, &[], Way::Waits, 40) == Ok(Asked::Waits(Ticket(0)))
-        && desk.ask(PUT, &[], Way::Waits, 41) == Err(Refused::NoRoom)
+pub(crate) fn stays_full(desk: &mut Desk) -> bool {
+    asks(desk, GET, 40, Ok(Asked::Waits(Ticket(0))))
+        && asks(desk, PUT, 41, Err(Refused::NoRoom))
         && turns(desk, 0)
-        && desk.ask(PUT, &[], Way::Waits, 41) == Err(Refused::NoRoom)
-}
-
-#[test]
-fn what_is_full_of_those_who_wait_has_no_room(rt: HostRuntime) {
-    match opened(rt.alloc(), 1) {
-        Some(mut desk) => assert!(rt; stays_full(&mut desk)),
-        None => panic!(rt; "the desk opens"),
-    }
+        && asks(desk, PUT, 41, Err(Refused::NoRoom))
 }
 
 /// A closed desk gives the chapter that was not kept, and its last one.
-fn ends_closed(desk: &mut Desk) -> bool {
+pub(crate) fn ends_closed(desk: &mut Desk) -> bool {
     if !loses(desk, 0) {
         return false;
     }
@@ -134,16 +114,8 @@ fn ends_closed(desk: &mut Desk) -> bool {
     turns(desk, 0) && turns(desk, 1)
 }
 
-#[test]
-fn a_closed_desk_gives_its_last_chapters(rt: HostRuntime) {
-    match opened(rt.alloc(), 2) {
-        Some(mut desk) => assert!(rt; ends_closed(&mut desk)),
-        None => panic!(rt; "the desk opens"),
-    }
-}
-
 /// A chapter that the desk has not given is given back by `kept` and by `not_kept`.
-fn keeps_its_own(one: &mut Desk, other: &mut Desk) -> bool {
+pub(crate) fn keeps_its_own(one: &mut Desk, other: &mut Desk) -> bool {
     let Ok(first) = other.end_chapter() else {
         return false;
     };
@@ -154,12 +126,4 @@ fn keeps_its_own(one: &mut Desk, other: &mut Desk) -> bool {
         return false;
     };
     other.kept(again).is_ok() && turns(one, 0) && turns(other, 1)
-}
-
-#[test]
-fn a_desk_takes_back_what_it_gave(rt: HostRuntime) {
-    match (opened(rt.alloc(), 2), opened(rt.alloc(), 2)) {
-        (Some(mut one), Some(mut other)) => assert!(rt; keeps_its_own(&mut one, &mut other)),
-        _ => panic!(rt; "the desks open"),
-    }
 }

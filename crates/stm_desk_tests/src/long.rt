@@ -3,18 +3,16 @@
 ghost use Rattle.std.specs.Prelude.{IfSome};
 ghost use Rattle.stm_desk.specs.Asking.{IsStill};
 
+use crate::asking::{GET, PUT, asks, entry, tries};
+use crate::room::{all_wait, is_left_alone, makes_room, waits_for_the_host};
 use std::alloc::Global;
 use stm_desk::{Answer, Asked, Desk};
 use stm_store::{Job, Program, Refused, Store, Ticket, Way, Worker};
-use txn::{Outcome, TxId};
+use txn::TxId;
 
 /// A buffer for one number; `put` is long, and `get` too.
 const BUFFER: &[u8] =
     b"(var n 0) (tx get (if (eq n 0) (retry) (set n 0)) 7) (tx put (if (eq n 0) (set n 1) (retry)) 8)";
-
-pub(crate) const GET: TxId = TxId(0);
-
-pub(crate) const PUT: TxId = TxId(1);
 
 /// A store of the buffer, for one worker.
 fn stored(alloc: Global, room: usize) -> Option<Store>
@@ -28,7 +26,7 @@ fn stored(alloc: Global, room: usize) -> Option<Store>
     Store::open_with_room(alloc, program, 1, 0, room).ok()
 }
 
-pub(crate) fn opened(alloc: Global, room: usize) -> Option<(Desk, Worker)> {
+fn opened(alloc: Global, room: usize) -> Option<(Desk, Worker)> {
     let mut store = stored(alloc, room)?;
     let worker = store.worker()?;
     let mut long = Vec::new(alloc);
@@ -64,32 +62,31 @@ pub(crate) fn is_told(desk: &mut Desk, whose: u64, answer: Answer) -> bool {
     }
 }
 
-/// The entry of this number in the first chapter.
-pub(crate) fn entry(ticket: u64, value: i64, entry: u64, place: u64) -> Answer {
-    Answer {
-        ticket: Ticket(ticket),
-        outcome: Outcome::Returned(value),
-        chapter: 0,
-        entry,
-        place,
+/// Whether this is told next to 40.
+fn tells_first(desk: &mut Desk, answer: Result<Answer, Refused>) -> bool {
+    match desk.told() {
+        Some(told) => told.whose == 40 && told.answer == answer,
+        None => false,
     }
 }
 
-#[test]
-fn who_asks_evaluates(rt: HostRuntime) {
-    let Some((mut desk, mut worker)) = opened(rt.alloc(), 9) else {
-        panic!(rt; "the desk opens");
+/// Who asks evaluates.
+fn evaluates(desk: &mut Desk, worker: &mut Worker) -> bool {
+    let Some(job) = begun(desk, PUT, 40) else {
+        return false;
     };
-    let Some(job) = begun(&mut desk, PUT, 40) else {
-        panic!(rt; "the call is long");
-    };
-    assert_eq!(rt; job.ticket, Ticket(0));
-    assert!(rt; is_brought(&mut desk, &mut worker, job));
-    let Some(told) = desk.told() else {
-        panic!(rt; "it was entered");
-    };
-    assert_eq!(rt; (told.whose, told.answer), (40, Ok(entry(0, 8, 1, 0))));
-    assert_eq!(rt; desk.bring(&mut worker), Err(Refused::NotEnded));
+    job.ticket == Ticket(0)
+        && is_brought(desk, worker, job)
+        && tells_first(desk, Ok(entry(0, 8, 1, 0)))
+        && desk.bring(worker) == Err(Refused::NotEnded)
+}
+
+/// Whether the call begins, and is brought.
+fn is_done(desk: &mut Desk, worker: &mut Worker, tx: TxId, whose: u64) -> bool {
+    match begun(desk, tx, whose) {
+        Some(job) => is_brought(desk, worker, job),
+        None => false,
+    }
 }
 
 /// Whether the next one that runs again is whose, and is brought.
@@ -100,50 +97,16 @@ fn goes_on(desk: &mut Desk, worker: &mut Worker, whose: u64) -> bool {
     }
 }
 
-#[test]
-fn who_is_woken_evaluates_again(rt: HostRuntime) {
-    let Some((mut desk, mut worker)) = opened(rt.alloc(), 9) else {
-        panic!(rt; "the desk opens");
-    };
-    let Some(get) = begun(&mut desk, GET, 40) else {
-        panic!(rt; "the call is long");
-    };
-    assert!(rt; is_brought(&mut desk, &mut worker, get));
-    assert!(rt; desk.told().is_none());
-    assert!(rt; desk.next_due().is_none());
-    let Some(put) = begun(&mut desk, PUT, 41) else {
-        panic!(rt; "the call is long");
-    };
-    assert!(rt; is_brought(&mut desk, &mut worker, put));
-    assert!(rt; goes_on(&mut desk, &mut worker, 40));
-    assert!(rt; desk.next_due().is_none());
-    assert!(rt; is_told(&mut desk, 41, entry(1, 8, 1, 0)));
-    assert!(rt; is_told(&mut desk, 40, entry(0, 7, 2, 1)));
-}
-
-#[test]
-fn what_is_stale_runs_here(rt: HostRuntime) {
-    let Some((mut desk, mut worker)) = opened(rt.alloc(), 9) else {
-        panic!(rt; "the desk opens");
-    };
-    let Some(first) = begun(&mut desk, PUT, 40) else {
-        panic!(rt; "the call is long");
-    };
-    let Some(second) = begun(&mut desk, GET, 41) else {
-        panic!(rt; "the call is long");
-    };
-    if !worker
-        .catalogue()
-        .is_callable(second.tx, second.arguments.as_slice())
-    {
-        panic!(rt; "what was begun can be called");
-    }
-    assert!(rt; worker.try_job(second).is_ok());
-    assert!(rt; is_run(&mut desk, first));
-    assert_eq!(rt; desk.bring(&mut worker), Err(Refused::Stale));
-    assert!(rt; is_run(&mut desk, second));
-    assert!(rt; !is_run(&mut desk, second));
-    assert_eq!(rt; desk.store().value("n"), Some((0, 2)));
+/// Who is woken evaluates again.
+fn evaluates_again(desk: &mut Desk, worker: &mut Worker) -> bool {
+    is_done(desk, worker, GET, 40)
+        && desk.told().is_none()
+        && desk.next_due().is_none()
+        && is_done(desk, worker, PUT, 41)
+        && goes_on(desk, worker, 40)
+        && desk.next_due().is_none()
+        && is_told(desk, 41, entry(1, 8, 1, 0))
+        && is_told(desk, 40, entry(0, 7, 2, 1))
 }
 
 /// Whether the job had its turn at the desk.
@@ -158,45 +121,53 @@ pub(crate) fn is_run(desk: &mut Desk, job: Job) -> bool {
     desk.run_now(job).is_ok()
 }
 
-#[test]
-fn who_leaves_a_long_call_is_not_entered(rt: HostRuntime) {
-    let Some((mut desk, mut worker)) = opened(rt.alloc(), 9) else {
-        panic!(rt; "the desk opens");
-    };
-    let Some(job) = begun(&mut desk, PUT, 40) else {
-        panic!(rt; "the call is long");
-    };
-    assert!(rt; worker.ended().is_none());
-    assert_eq!(rt; desk.leave(job.ticket), Ok(()));
-    assert!(rt; !is_brought(&mut desk, &mut worker, job));
-    assert!(rt; desk.told().is_none());
-    assert_eq!(rt; desk.store().value("n"), Some((0, 0)));
+/// Whether the worker evaluated the job to its end.
+fn is_tried(worker: &mut Worker, job: Job) -> bool {
+    worker
+        .catalogue()
+        .is_callable(job.tx, job.arguments.as_slice())
+        && worker.try_job(job).is_ok()
 }
 
-#[test]
-fn what_runs_is_shut_out_too(rt: HostRuntime) {
-    let Some((mut desk, mut worker)) = opened(rt.alloc(), 9) else {
-        panic!(rt; "the desk opens");
+/// What is stale runs here.
+fn runs_what_is_stale(desk: &mut Desk, worker: &mut Worker) -> bool {
+    let (Some(first), Some(second)) = (begun(desk, PUT, 40), begun(desk, GET, 41)) else {
+        return false;
     };
-    let Some(job) = begun(&mut desk, PUT, 40) else {
-        panic!(rt; "the call is long");
+    is_tried(worker, second)
+        && is_run(desk, first)
+        && desk.bring(worker) == Err(Refused::Stale)
+        && is_run(desk, second)
+        && !is_run(desk, second)
+        && desk.store().value("n") == Some((0, 2))
+}
+
+/// Who leaves a long call is not entered.
+fn leaves(desk: &mut Desk, worker: &mut Worker) -> bool {
+    let Some(job) = begun(desk, PUT, 40) else {
+        return false;
+    };
+    worker.ended().is_none()
+        && desk.leave(job.ticket) == Ok(())
+        && !is_brought(desk, worker, job)
+        && desk.told().is_none()
+        && desk.store().value("n") == Some((0, 0))
+}
+
+/// What runs is shut out too.
+fn is_shut_out(desk: &mut Desk, worker: &mut Worker) -> bool {
+    let Some(job) = begun(desk, PUT, 40) else {
+        return false;
     };
     desk.close();
-    let Some(told) = desk.told() else {
-        panic!(rt; "who evaluates is told");
-    };
-    assert_eq!(rt; (told.whose, told.answer), (40, Err(Refused::Closed)));
-    assert!(rt; !is_brought(&mut desk, &mut worker, job));
-    assert_eq!(rt; desk.next_due(), None);
+    tells_first(desk, Err(Refused::Closed))
+        && !is_brought(desk, worker, job)
+        && desk.next_due() == None
 }
 
-#[test]
-fn where_there_is_no_room_none_begins(rt: HostRuntime) {
-    let Some((mut desk, _worker)) = opened(rt.alloc(), 0) else {
-        panic!(rt; "the desk opens");
-    };
-    assert_eq!(rt; desk.ask(PUT, &[], Way::Waits, 40), Err(Refused::NoRoom));
-    assert_eq!(rt; desk.ask(GET, &[], Way::Tries, 40), Err(Refused::Retries));
+/// Where there is no room none begins.
+fn has_no_room(desk: &mut Desk) -> bool {
+    asks(desk, PUT, 40, Err(Refused::NoRoom)) && tries(desk, GET, 40, Err(Refused::Retries))
 }
 
 /// Whether the first chapter ends.
@@ -207,24 +178,18 @@ fn is_over(desk: &mut Desk) -> bool {
     }
 }
 
-#[test]
-fn what_runs_has_its_turn_before_a_chapter_ends(rt: HostRuntime) {
-    let Some((mut desk, mut worker)) = opened(rt.alloc(), 2) else {
-        panic!(rt; "the desk opens");
+/// What runs has its turn before a chapter ends.
+fn ends_with_turns(desk: &mut Desk, worker: &mut Worker) -> bool {
+    let (Some(get), Some(put)) = (begun(desk, GET, 40), begun(desk, PUT, 41)) else {
+        return false;
     };
-    let Some(get) = begun(&mut desk, GET, 40) else {
-        panic!(rt; "the call is long");
-    };
-    let Some(put) = begun(&mut desk, PUT, 41) else {
-        panic!(rt; "the call is long");
-    };
-    assert!(rt; is_over(&mut desk));
-    assert!(rt; !is_brought(&mut desk, &mut worker, get));
-    assert!(rt; !is_brought(&mut desk, &mut worker, put));
-    assert_eq!(rt; desk.next_due(), None);
-    assert!(rt; is_told(&mut desk, 41, entry(1, 8, 1, 0)));
-    assert!(rt; is_told(&mut desk, 40, entry(0, 7, 2, 1)));
-    assert!(rt; desk.told().is_none());
+    is_over(desk)
+        && !is_brought(desk, worker, get)
+        && !is_brought(desk, worker, put)
+        && desk.next_due() == None
+        && is_told(desk, 41, entry(1, 8, 1, 0))
+        && is_told(desk, 40, entry(0, 7, 2, 1))
+        && desk.told().is_none()
 }
 
 /// Whether the store's report is told as of now.
@@ -235,7 +200,7 @@ fn is_reported(desk: &Desk) -> bool {
     }
 }
 
-/// What runs has its turn, and the report can be told.
+/// What runs has its turn before a report, which can be told then.
 fn settles(desk: &mut Desk) -> bool {
     if begun(desk, GET, 40).is_none() || begun(desk, PUT, 41).is_none() || is_reported(desk) {
         return false;
@@ -248,10 +213,83 @@ fn settles(desk: &mut Desk) -> bool {
         && desk.told().is_none()
 }
 
+/// What is asked of a desk of which all calls are long, and a worker.
+enum Whether {
+    Evaluates,
+    EvaluatesAgain,
+    RunsWhatIsStale,
+    Leaves,
+    IsShutOut,
+    HasNoRoom,
+    EndsWithTurns,
+    Settles,
+    MakesRoom,
+    AllWait,
+    IsLeftAlone,
+    WaitsForTheHost,
+}
+
+/// Whether it is so of the desk and the worker.
+fn is_so_of(desk: &mut Desk, worker: &mut Worker, whether: &Whether) -> bool {
+    match whether {
+        Whether::Evaluates => evaluates(desk, worker),
+        Whether::EvaluatesAgain => evaluates_again(desk, worker),
+        Whether::RunsWhatIsStale => runs_what_is_stale(desk, worker),
+        Whether::Leaves => leaves(desk, worker),
+        Whether::IsShutOut => is_shut_out(desk, worker),
+        Whether::HasNoRoom => has_no_room(desk),
+        Whether::EndsWithTurns => ends_with_turns(desk, worker),
+        Whether::Settles => settles(desk),
+        Whether::MakesRoom => makes_room(desk),
+        Whether::AllWait => all_wait(desk),
+        Whether::IsLeftAlone => is_left_alone(desk),
+        Whether::WaitsForTheHost => waits_for_the_host(desk, worker),
+    }
+}
+
+/// Whether it is so of a desk with room for so many calls.
+fn is_so(alloc: Global, room: usize, whether: &Whether) -> bool {
+    match opened(alloc, room) {
+        Some((mut desk, mut worker)) => is_so_of(&mut desk, &mut worker, whether),
+        None => false,
+    }
+}
+
+/// What it shows, how many calls there is room for, and what is so.
+const ROWS: &[(&str, usize, Whether)] = &[
+    ("who asks evaluates", 9, Whether::Evaluates),
+    ("who is woken evaluates again", 9, Whether::EvaluatesAgain),
+    ("what is stale runs here", 9, Whether::RunsWhatIsStale),
+    ("who leaves a long call is not entered", 9, Whether::Leaves),
+    ("what runs is shut out too", 9, Whether::IsShutOut),
+    ("where there is no room none begins", 0, Whether::HasNoRoom),
+    (
+        "what runs has its turn before a chapter ends",
+        2,
+        Whether::EndsWithTurns,
+    ),
+    (
+        "what runs has its turn before a report",
+        9,
+        Whether::Settles,
+    ),
+    ("what runs leaves its place", 3, Whether::MakesRoom),
+    ("there is no room only where all wait", 2, Whether::AllWait),
+    (
+        "what runs goes on while a chapter lies there",
+        1,
+        Whether::IsLeftAlone,
+    ),
+    (
+        "a full chapter waits for the one before",
+        1,
+        Whether::WaitsForTheHost,
+    ),
+];
+
 #[test]
-fn what_runs_has_its_turn_before_a_report(rt: HostRuntime) {
-    let Some((mut desk, _worker)) = opened(rt.alloc(), 9) else {
-        panic!(rt; "the desk opens");
-    };
-    assert!(rt; settles(&mut desk));
+fn long_calls_are_answered(rt: HostRuntime) {
+    for (shows, room, whether) in ROWS {
+        assert!(rt; is_so(rt.alloc(), *room, whether), "{shows}");
+    }
 }

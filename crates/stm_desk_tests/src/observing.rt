@@ -1,36 +1,30 @@
 //! How calls would end.
 
-use crate::asking::{GET, PUT, opened};
-use stm_desk::Asked;
-use stm_store::{Refused, Ticket, Way};
+use crate::asking::{GET, PUT, asks};
+use stm_desk::{Asked, Desk};
+use stm_store::{Refused, Ticket};
 use txn::{Outcome, TxId};
 
-#[test]
-fn how_a_call_would_end_changes_nothing(rt: HostRuntime) {
-    let Some(mut desk) = opened(rt.alloc(), 1) else {
-        panic!(rt; "the desk opens");
-    };
-    assert_eq!(rt; desk.outcome_now(GET, &[]), Ok(Outcome::Retries));
-    assert_eq!(rt; desk.outcome_now(PUT, &[]), Ok(Outcome::Returned(8)));
-    assert_eq!(rt; desk.outcome_now(PUT, &[]), Ok(Outcome::Returned(8)));
-    assert_eq!(rt; desk.store().value("n"), Some((0, 0)));
-    assert_eq!(rt;
-        desk.ask(GET, &[], Way::Waits, 40),
-        Ok(Asked::Waits(Ticket(0)))
-    );
-    assert_eq!(rt; desk.outcome_now(PUT, &[]), Ok(Outcome::Returned(8)));
-    assert!(rt; desk.told().is_none());
+/// How a call would end changes nothing.
+pub(crate) fn changes_nothing(desk: &mut Desk) -> bool {
+    desk.outcome_now(GET, &[]) == Ok(Outcome::Retries)
+        && desk.outcome_now(PUT, &[]) == Ok(Outcome::Returned(8))
+        && desk.outcome_now(PUT, &[]) == Ok(Outcome::Returned(8))
+        && desk.store().value("n") == Some((0, 0))
+        && asks(desk, GET, 40, Ok(Asked::Waits(Ticket(0))))
+        && desk.outcome_now(PUT, &[]) == Ok(Outcome::Returned(8))
+        && desk.told().is_none()
 }
 
-#[test]
-fn how_a_call_would_end_is_told_of_what_can_be_called(rt: HostRuntime) {
-    let Some(mut desk) = opened(rt.alloc(), 0) else {
-        panic!(rt; "the desk opens");
-    };
-    assert_eq!(rt; desk.outcome_now(TxId(2), &[]), Err(Refused::Unknown));
-    assert_eq!(rt; desk.outcome_now(GET, &[1]), Err(Refused::Unknown));
-    assert_eq!(rt; desk.outcome_now(PUT, &[]), Ok(Outcome::Returned(8)));
+/// It is told of what can be called, and of nothing where the desk is closed.
+pub(crate) fn knows_ends(desk: &mut Desk) -> bool {
+    if desk.outcome_now(TxId(2), &[]) != Err(Refused::Unknown)
+        || desk.outcome_now(GET, &[1]) != Err(Refused::Unknown)
+        || desk.outcome_now(PUT, &[]) != Ok(Outcome::Returned(8))
+    {
+        return false;
+    }
     desk.close();
-    assert_eq!(rt; desk.outcome_now(PUT, &[]), Err(Refused::Closed));
-    assert_eq!(rt; desk.outcome_now(TxId(2), &[]), Err(Refused::Closed));
+    desk.outcome_now(PUT, &[]) == Err(Refused::Closed)
+        && desk.outcome_now(TxId(2), &[]) == Err(Refused::Closed)
 }

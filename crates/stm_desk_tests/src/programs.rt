@@ -3,7 +3,9 @@
 ghost use Rattle.std.specs.Prelude.{IfSome};
 ghost use Rattle.stm_desk.specs.Asking.{IsStill};
 
-use crate::asking::entry;
+use crate::asking::{GET, PUT, asks, closes, entry, knows, leaves, tells_once, tries};
+use crate::ending::{comes_over, ends_closed, is_given_again, keeps_its_own, stays_full};
+use crate::observing::{changes_nothing, knows_ends};
 use std::alloc::Global;
 use stm_desk::{Asked, Desk};
 use stm_store::{Program, Refused, Store, Ticket, Way};
@@ -42,26 +44,14 @@ const OWN: &str =
     "(var n 0) (tx get (if (eq n 0) (retry) (set n 0)) 7) (tx put (if (eq n 0) (set n 1) (retry)) 8) (tx see (skip) n) \
         (run get 1) (run see 1)";
 
-const GET: TxId = TxId(0);
-
-const PUT: TxId = TxId(1);
-
 /// What is woken of the file is entered, with a place in the history, and nobody is told.
 fn wakes_its_own(desk: &mut Desk) -> bool {
     desk.leave(Ticket(0)) == Err(Refused::Gone)
-        && desk.ask(PUT, &[], Way::Waits, 40) == Ok(Asked::Ended(entry(2, 8, 2, 1)))
+        && asks(desk, PUT, 40, Ok(Asked::Ended(entry(2, 8, 2, 1))))
         && desk.store().value("n") == Some((0, 3))
-        && desk.ask(PUT, &[], Way::Waits, 40) == Ok(Asked::Ended(entry(3, 8, 4, 3)))
-        && desk.ask(GET, &[], Way::Waits, 40) == Ok(Asked::Ended(entry(4, 7, 5, 4)))
+        && asks(desk, PUT, 40, Ok(Asked::Ended(entry(3, 8, 4, 3))))
+        && asks(desk, GET, 40, Ok(Asked::Ended(entry(4, 7, 5, 4))))
         && desk.told().is_none()
-}
-
-#[test]
-fn a_file_has_tasks_of_its_own(rt: HostRuntime) {
-    match opened(rt.alloc(), OWN, 9) {
-        Some(mut desk) => assert!(rt; wakes_its_own(&mut desk)),
-        None => panic!(rt; "the desk opens"),
-    }
 }
 
 /// What waits of the file comes over, and is left alone by who closes.
@@ -73,19 +63,10 @@ fn carries_its_own(desk: &mut Desk) -> bool {
     desk.told().is_none() && turns(desk, 1)
 }
 
-#[test]
-fn what_waits_of_a_file_comes_over(rt: HostRuntime) {
-    match opened(rt.alloc(), OWN, 0) {
-        Some(mut desk) => assert!(rt; carries_its_own(&mut desk)),
-        None => panic!(rt; "the desk opens"),
-    }
-}
-
 /// Whether nothing can be called, and all else can be done.
 fn is_idle(desk: &mut Desk) -> bool {
-    let unknown = Err(Refused::Unknown);
-    if desk.ask(TxId(0), &[], Way::Waits, 40) != unknown
-        || desk.ask(TxId(0), &[], Way::Tries, 40) != unknown
+    if !asks(desk, TxId(0), 40, Err(Refused::Unknown))
+        || !tries(desk, TxId(0), 40, Err(Refused::Unknown))
     {
         return false;
     }
@@ -94,14 +75,6 @@ fn is_idle(desk: &mut Desk) -> bool {
         && desk.next_due().is_none()
         && turns(desk, 0)
         && desk.store().value("n") == Some((5, 0))
-}
-
-#[test]
-fn nothing_is_called_where_there_is_no_transaction(rt: HostRuntime) {
-    match opened(rt.alloc(), "(var n 5)", 9) {
-        Some(mut desk) => assert!(rt; is_idle(&mut desk)),
-        None => panic!(rt; "the desk opens"),
-    }
 }
 
 /// A transaction with a long name, so that few tasks make a long file.
@@ -131,14 +104,148 @@ fn ends_with_a_long_file(desk: &mut Desk) -> bool {
     is_of_third && ended.report.as_str().ends_with("end\n") && desk.kept(ended).is_ok()
 }
 
+/// A chapter gets so long that its file is of the third form, and the next one begins.
+fn gets_long(desk: &mut Desk) -> bool {
+    is_called(desk, 26_000) && ends_with_a_long_file(desk) && turns(desk, 1)
+}
+
+/// What is asked of a desk.
+enum Whether {
+    TellsOnce,
+    Leaves,
+    Closes,
+    Knows,
+    ChangesNothing,
+    KnowsEnds,
+    ComesOver,
+    IsGivenAgain,
+    StaysFull,
+    EndsClosed,
+    WakesItsOwn,
+    CarriesItsOwn,
+    IsIdle,
+    GetsLong,
+}
+
+/// Whether it is so of the desk.
+fn is_so_of(desk: &mut Desk, whether: &Whether) -> bool {
+    match whether {
+        Whether::TellsOnce => tells_once(desk),
+        Whether::Leaves => leaves(desk),
+        Whether::Closes => closes(desk),
+        Whether::Knows => knows(desk),
+        Whether::ChangesNothing => changes_nothing(desk),
+        Whether::KnowsEnds => knows_ends(desk),
+        Whether::ComesOver => comes_over(desk),
+        Whether::IsGivenAgain => is_given_again(desk),
+        Whether::StaysFull => stays_full(desk),
+        Whether::EndsClosed => ends_closed(desk),
+        Whether::WakesItsOwn => wakes_its_own(desk),
+        Whether::CarriesItsOwn => carries_its_own(desk),
+        Whether::IsIdle => is_idle(desk),
+        Whether::GetsLong => gets_long(desk),
+    }
+}
+
+/// Whether it is so of a desk of the file, with room for so many calls.
+fn is_so(alloc: Global, text: &str, room: usize, whether: &Whether) -> bool {
+    match opened(alloc, text, room) {
+        Some(mut desk) => is_so_of(&mut desk, whether),
+        None => false,
+    }
+}
+
+/// A buffer for one number.
+const BUFFER: &str =
+    "(var n 0) (tx get (if (eq n 0) (retry) (set n 0)) 7) (tx put (if (eq n 0) (set n 1) (retry)) 8)";
+
+/// What it shows, a file, how many calls there is room for, and what is so.
+const ROWS: &[(&str, &str, usize, Whether)] = &[
+    ("who waits is told once", BUFFER, 9, Whether::TellsOnce),
+    ("who leaves is not entered", BUFFER, 9, Whether::Leaves),
+    ("what is closed takes no call", BUFFER, 9, Whether::Closes),
+    (
+        "what cannot be called is unknown",
+        BUFFER,
+        0,
+        Whether::Knows,
+    ),
+    (
+        "how a call would end changes nothing",
+        BUFFER,
+        1,
+        Whether::ChangesNothing,
+    ),
+    (
+        "how a call would end is told of what can be called",
+        BUFFER,
+        0,
+        Whether::KnowsEnds,
+    ),
+    (
+        "who waits is entered in the next chapter",
+        BUFFER,
+        2,
+        Whether::ComesOver,
+    ),
+    (
+        "what was not kept is given again",
+        BUFFER,
+        2,
+        Whether::IsGivenAgain,
+    ),
+    (
+        "what is full of those who wait has no room",
+        BUFFER,
+        1,
+        Whether::StaysFull,
+    ),
+    (
+        "a closed desk gives its last chapters",
+        BUFFER,
+        2,
+        Whether::EndsClosed,
+    ),
+    ("a file has tasks of its own", OWN, 9, Whether::WakesItsOwn),
+    (
+        "what waits of a file comes over",
+        OWN,
+        0,
+        Whether::CarriesItsOwn,
+    ),
+    (
+        "nothing is called where there is no transaction",
+        "(var n 5)",
+        9,
+        Whether::IsIdle,
+    ),
+    (
+        "a long chapter has a file of the third form",
+        LONG,
+        26_000,
+        Whether::GetsLong,
+    ),
+];
+
 #[test]
-fn a_long_chapter_has_a_file_of_the_third_form(rt: HostRuntime) {
-    match opened(rt.alloc(), LONG, 26_000) {
-        Some(mut desk) => {
-            assert!(rt; is_called(&mut desk, 26_000));
-            assert!(rt; ends_with_a_long_file(&mut desk));
-            assert!(rt; turns(&mut desk, 1));
-        }
+fn desks_answer(rt: HostRuntime) {
+    for (shows, text, room, whether) in ROWS {
+        assert!(rt; is_so(rt.alloc(), text, *room, whether), "{shows}");
+    }
+}
+
+/// Whether two desks take back what each gave.
+fn keep_their_own(alloc: Global, one: &mut Desk) -> bool {
+    match opened(alloc, BUFFER, 2) {
+        Some(mut other) => keeps_its_own(one, &mut other),
+        None => false,
+    }
+}
+
+#[test]
+fn a_desk_takes_back_what_it_gave(rt: HostRuntime) {
+    match opened(rt.alloc(), BUFFER, 2) {
+        Some(mut one) => assert!(rt; keep_their_own(rt.alloc(), &mut one)),
         None => panic!(rt; "the desk opens"),
     }
 }

@@ -1,8 +1,9 @@
 //! Calls for which a chapter has no room.
 
-use crate::long::{GET, PUT, begun, entry, is_run, is_told, opened};
+use crate::asking::{GET, PUT, asks, entry};
+use crate::long::{begun, is_run, is_told};
 use stm_desk::{Answer, Asked, Desk};
-use stm_store::{Refused, Ticket, Way, Worker};
+use stm_store::{Refused, Ticket, Worker};
 
 /// The entry of the second chapter.
 fn next_entry(ticket: u64, value: i64, number: u64, place: u64) -> Answer {
@@ -26,7 +27,7 @@ fn turns(desk: &mut Desk, chapter: u64) -> bool {
 
 /// Whether the call is answered that the chapter is full.
 fn is_full(desk: &mut Desk) -> bool {
-    desk.ask(GET, &[], Way::Waits, 43) == Ok(Asked::ChapterFull)
+    asks(desk, GET, 43, Ok(Asked::ChapterFull))
 }
 
 /// The room for three is used up by calls that run.
@@ -53,42 +54,26 @@ fn runs_fourth(desk: &mut Desk) -> bool {
     }
 }
 
-fn makes_room(desk: &mut Desk) -> bool {
+pub(crate) fn makes_room(desk: &mut Desk) -> bool {
     runs_three(desk) && is_full(desk) && tells_three(desk) && turns(desk, 0) && runs_fourth(desk)
 }
 
-#[test]
-fn what_runs_leaves_its_place(rt: HostRuntime) {
-    let Some((mut desk, _worker)) = opened(rt.alloc(), 3) else {
-        panic!(rt; "the desk opens");
-    };
-    assert!(rt; makes_room(&mut desk));
-}
-
 /// Calls that ran and wait now leave no room, also in the next chapter.
-fn all_wait(desk: &mut Desk) -> bool {
+pub(crate) fn all_wait(desk: &mut Desk) -> bool {
     begun(desk, GET, 40).is_some()
         && begun(desk, GET, 41).is_some()
-        && desk.ask(PUT, &[], Way::Waits, 42) == Err(Refused::NoRoom)
+        && asks(desk, PUT, 42, Err(Refused::NoRoom))
         && desk.told().is_none()
         && turns(desk, 0)
-        && desk.ask(PUT, &[], Way::Waits, 42) == Err(Refused::NoRoom)
+        && asks(desk, PUT, 42, Err(Refused::NoRoom))
         && desk.leave(Ticket(1)) == Ok(())
         && is_full(desk)
         && turns(desk, 1)
         && begun(desk, PUT, 42).is_some()
 }
 
-#[test]
-fn there_is_no_room_only_where_all_wait(rt: HostRuntime) {
-    let Some((mut desk, _worker)) = opened(rt.alloc(), 2) else {
-        panic!(rt; "the desk opens");
-    };
-    assert!(rt; all_wait(&mut desk));
-}
-
 /// Where a chapter was not kept what runs is left alone.
-fn is_left_alone(desk: &mut Desk) -> bool {
+pub(crate) fn is_left_alone(desk: &mut Desk) -> bool {
     let Ok(ended) = desk.end_chapter() else {
         return false;
     };
@@ -98,19 +83,11 @@ fn is_left_alone(desk: &mut Desk) -> bool {
     let Some(job) = begun(desk, PUT, 40) else {
         return false;
     };
-    desk.ask(PUT, &[], Way::Waits, 41) == Err(Refused::NoRoom) && is_run(desk, job)
-}
-
-#[test]
-fn what_runs_goes_on_while_a_chapter_lies_there(rt: HostRuntime) {
-    let Some((mut desk, _worker)) = opened(rt.alloc(), 1) else {
-        panic!(rt; "the desk opens");
-    };
-    assert!(rt; is_left_alone(&mut desk));
+    asks(desk, PUT, 41, Err(Refused::NoRoom)) && is_run(desk, job)
 }
 
 /// Where the host has a chapter and the present one is used up, what asks waits for the host.
-fn waits_for_the_host(desk: &mut Desk, worker: &mut Worker) -> bool {
+pub(crate) fn waits_for_the_host(desk: &mut Desk, worker: &mut Worker) -> bool {
     let Ok(ended) = desk.end_chapter() else {
         return false;
     };
@@ -121,12 +98,4 @@ fn waits_for_the_host(desk: &mut Desk, worker: &mut Worker) -> bool {
         && desk.kept(ended).is_ok()
         && turns(desk, 1)
         && begun(desk, GET, 43).is_some()
-}
-
-#[test]
-fn a_full_chapter_waits_for_the_one_before(rt: HostRuntime) {
-    let Some((mut desk, mut worker)) = opened(rt.alloc(), 1) else {
-        panic!(rt; "the desk opens");
-    };
-    assert!(rt; waits_for_the_host(&mut desk, &mut worker));
 }
