@@ -6,6 +6,8 @@ use Rattle.std.proofs.Crossing.{crosses}
 use Rattle.std.proofs.MapsCrossing as maps
 use Rattle.std.specs.contracts.sync.Mutex as mutex
 use Rattle.book.proofs.Crossing.{catalogue_sync}
+use Rattle.stm_store.proofs.Crossing.{worker_send}
+use Rattle.stm_store.proofs.job.Job.TheSendSync as job
 use Rattle.stm_desk.proofs.Crossing.{desk_send}
 use Rattle.stm_sharing.specs.declared.name.Naming.{Ghosts}
 use Rattle.stm_sharing.proofs.chapter.Shelf.TheSendSync as shelf
@@ -21,6 +23,7 @@ behind_send N n s =
     let f = front.the_send N n in
     let h = head.the_send N n in
     let k = shelf.the_send N n in
+    let j = job.the_send in
     declared_send (behind.the_type N n) (
       search (sendable, crosses) depth 20,
       (
@@ -48,10 +51,11 @@ pub service_sync : (N : RattleType) (n : Ghosts N.Denot) → IsSend N → IsSync
 service_sync N n s =
     let c = catalogue_sync in
     let r = shr_sync in
+    let w = worker_send in
     declared_sync (service.the_type N n) (
       search (sendable, crosses) depth 60,
       (
         search (sendable, crosses) depth 60,
-        (behind_sync N n s, (search (sendable, crosses) depth 60, (search (sendable, crosses) depth 60, tt))),
+        (behind_sync N n s, (search (sendable, crosses) depth 60, (search (sendable, crosses) depth 60, (search (sendable, crosses) depth 60, tt)))),
       ),
     )

@@ -3,6 +3,7 @@ pub mod Adding
 pub mod Joining
 pub mod Histories
 pub mod Waiting
+pub mod Jobs
 pub mod Asking
 pub mod InTime
 pub mod Chapters

@@ -21,7 +21,7 @@ use std::collections::BTreeMap;
 use std::mem::replace;
 use std::sync::{Arc, Condvar, Wait};
 use stm_desk::{Answer, Asked, Desk};
-use stm_store::{Refused, Store, Ticket, Way};
+use stm_store::{Job, Refused, Store, Ticket, Way};
 use txn::Call;
 
 /// A desk under a name, with all that its history shows, and a seat for each thread that waits.
@@ -33,13 +33,12 @@ pub(crate) struct Behind<N: Naming> {
     /// Whether the desk is closed.
     pub(crate) closed: bool,
     /// By ticket.
-    seats: BTreeMap<u64, Seat<N>>,
+    pub(crate) seats: BTreeMap<u64, Seat<N>>,
     /// What there was to be seen when the present chapter began.
     began: Front<N>,
     shelf: Shelf<N>,
     ghost named: { desk.work.first.value.catalogue.now ≡ N.catalogue } by { Prim.hlevel (codes, coded_listing) },
     ghost placed: { desk.work.first.value.book.present.state ≡ N.first },
-    ghost short: { desk.work.long.items ≡ [] },
     ghost kept: { shelf.are_kept ≡ false → ∥ desk.work.last ≡ Last.Kept ∥₁ },
     ghost none_lies: { IsNotKept desk.work.last → ⊥ },
     ghost starts: { shelf.are_kept ≡ true
@@ -96,12 +95,14 @@ impl<N: Naming> Behind<N> {
     ghost use Rattle.stm_sharing.specs.declared.behind.Begun.TheVariants as Begun;
     ghost use Rattle.stm_sharing.specs.Telling.{IsTold};
 
-    /// The desk of a store, whose ready tasks have had their turns then, and a front that has seen nothing. Where its
-    /// chapters are kept, the present one has to have begun with the present values.
+    /// The desk of a store, whose ready tasks have had their turns then, and a front that has seen nothing. `long` says
+    /// of each transaction whether it is long. Where its chapters are kept, the present one has to have begun with the
+    /// present values.
     pub(crate) fn new<R: Wait>(
         rt: &R,
         alloc: Global,
         store: Store,
+        long: Vec<bool>,
         opened: Opened,
         are_kept: bool,
     ) -> (Behind<N>, Front<N>)
@@ -113,7 +114,7 @@ impl<N: Naming> Behind<N> {
         ensures { result.1 ≡ [] }
     {
         let (head, first) = opened.named::<N>();
-        let desk = Desk::open(alloc, store, Vec::new(alloc));
+        let desk = Desk::open(alloc, store, long);
         let mut front = first.again();
         front.add(rt, &head, &desk);
         let began = first.again();
@@ -155,11 +156,12 @@ impl<N: Naming> Behind<N> {
                 self.hand_out();
                 Begun::Ended(answer)
             }
-            Ok(Asked::Waits(ticket)) => self.wait(rt, ticket, call, front),
+            Ok(Asked::Waits(ticket)) => self.wait(rt, ticket, None, call, front),
+            Ok(Asked::Runs(job)) => self.wait(rt, job.ticket, Some(job), call, front),
             Ok(Asked::ChapterFull) => self.pass_on(rt, front),
-            Ok(Asked::Runs(_)) => unreachable!(),
             Err(why) => {
                 *front = self.front.again();
+                self.hand_out();
                 Begun::Refused(why)
             }
         }
@@ -243,8 +245,15 @@ impl<N: Naming> Behind<N> {
         }
     }
 
-    /// Whoever called waits from now on. Out of memory its task is given up.
-    fn wait<R: Wait>(&mut self, rt: &R, ticket: Ticket, call: &Call, front: &mut Front<N>) -> Begun
+    /// Whoever called waits from now on, and evaluates the job of a long call. Out of memory its task is given up.
+    fn wait<R: Wait>(
+        &mut self,
+        rt: &R,
+        ticket: Ticket,
+        job: Option<Job>,
+        call: &Call,
+        front: &mut Front<N>,
+    ) -> Begun
         requires waits { WaitsWith self.old.desk.work.waiters ticket call.now }
         requires is_new { IsNew front.old ticket }
         requires covers { Begins front.old self.old.front }
@@ -254,7 +263,7 @@ impl<N: Naming> Behind<N> {
             ticket,
             call: *call,
         };
-        match self.sit(&awaited) {
+        match self.sit(&awaited, job) {
             Some(bell) => Begun::Waits(awaited, bell),
             None => {
                 let _left = self.leave(rt, ticket);
@@ -265,7 +274,7 @@ impl<N: Naming> Behind<N> {
     }
 
     /// A seat for whoever waits, and its bell. `None` and no change out of memory.
-    fn sit(&mut self, awaited: &Awaited) -> Option<Arc<Condvar>>
+    fn sit(&mut self, awaited: &Awaited, job: Option<Job>) -> Option<Arc<Condvar>>
         requires { ∥ IsAwaited self.old.desk.work.waiters awaited.now.ticket.0 awaited.now.call ∥₁ }
         ensures desk { self.new.desk ≡ self.old.desk }
         ensures front { self.new.front ≡ self.old.front }
@@ -276,7 +285,7 @@ impl<N: Naming> Behind<N> {
         let Ok(own) = Arc::clone(&bell) else {
             return None;
         };
-        let seat = Seat::new(awaited, own);
+        let seat = Seat::new(awaited, own, job);
         if put(&mut self.seats, awaited.ticket, seat) {
             Some(bell)
         } else {
@@ -399,13 +408,14 @@ impl<N: Naming> Behind<N> {
         self.shelf.said_since(sayings)
     }
 
-    /// Each of whom something became is told, and called.
+    /// Each of whom something became is told, and called; and each who is to evaluate a long call.
     pub(crate) fn hand_out(&mut self)
         ensures front { self.new.front ≡ self.old.front }
         ensures store { self.new.desk.work.store ≡ self.old.desk.work.store }
         ensures kept { self.new.shelf.are_kept ≡ self.old.shelf.are_kept }
     {
         while self.hand_one() {}
+        self.hand_jobs();
     }
 
     /// The next one is. `false` where there is none.

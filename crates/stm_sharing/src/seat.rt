@@ -12,7 +12,7 @@ use crate::name::Naming;
 use std::collections::BTreeMap;
 use std::sync::{Arc, Condvar};
 use stm_desk::Answer;
-use stm_store::{Refused, Ticket};
+use stm_store::{Job, Refused, Ticket};
 use txn::Call;
 use txn_declarations::same::same_values;
 
@@ -36,6 +36,8 @@ pub(crate) struct Seat<N: Naming> {
     pub(crate) ticket: Ticket,
     pub(crate) call: Call,
     bell: Arc<Condvar>,
+    /// What its thread is to evaluate, where its call is long and runs.
+    pub(crate) job: Option<Job>,
     pub(crate) heard: Option<Heard<N>>,
     ghost told: { ForSome heard (λ h. ∥ IsTold h.front ticket call h.answer ∥₁) },
 }
@@ -48,8 +50,8 @@ fn are_same(a: &Call, b: &Call) -> bool
 }
 
 impl<N: Naming> Seat<N> {
-    /// Of a call that waits.
-    pub(crate) fn new(awaited: &Awaited, bell: Arc<Condvar>) -> Seat<N>
+    /// Of a call that waits; a long one is to be evaluated.
+    pub(crate) fn new(awaited: &Awaited, bell: Arc<Condvar>, job: Option<Job>) -> Seat<N>
         ensures untold { result.heard ≡ None }
         ensures call { result.call ≡ awaited.now.call }
         ensures ticket { result.ticket ≡ awaited.now.ticket }
@@ -58,6 +60,7 @@ impl<N: Naming> Seat<N> {
             ticket: awaited.ticket,
             call: awaited.call,
             bell,
+            job,
             heard: None,
         }
     }
@@ -104,6 +107,33 @@ impl<N: Naming> Seat<N> {
         self.heard = Some(Heard { answer, front });
         self.bell.notify_one();
     }
+
+    /// This is what its thread is to evaluate, which is called where there is something.
+    fn hand(&mut self, job: Option<Job>)
+        ensures job { self.new.job ≡ job }
+        ensures ticket { self.new.ticket ≡ self.old.ticket }
+        ensures call { self.new.call ≡ self.old.call }
+        ensures heard { self.new.heard ≡ self.old.heard }
+    {
+        self.job = job;
+        if job.is_some() {
+            self.bell.notify_one();
+        }
+    }
+}
+
+/// This is what the thread at the seat of this ticket is to evaluate, where there is one.
+pub(crate) fn hand<N: Naming>(seats: &mut BTreeMap<u64, Seat<N>>, ticket: Ticket, job: Option<Job>)
+    ensures here { ForSome (get nat_cmp seats.new ticket.0) (λ new. (new.job ≡ job)
+        × ForSome (get nat_cmp seats.old ticket.0) (λ old. (new.ticket ≡ old.ticket) × (new.call ≡ old.call)
+        × (new.heard ≡ old.heard))) }
+    ensures nobody { get nat_cmp seats.old ticket.0 ≡ None → get nat_cmp seats.new ticket.0 ≡ None }
+    ensures others { (other : ℕ) → other ≢ ticket.0 → get nat_cmp seats.new other ≡ get nat_cmp seats.old other }
+{
+    let Some(seat) = seats.get_mut(&ticket.0) else {
+        return;
+    };
+    seat.hand(job);
 }
 
 /// The thread at the seat of this ticket is told this, where there is one.

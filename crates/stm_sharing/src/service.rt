@@ -12,12 +12,13 @@ ghost use Rattle.stm_sharing.specs.Telling.{IsAnswered, IsTold};
 
 use crate::behind::{Begun, Behind};
 use crate::front::{Front, Opened};
+use crate::long::{long_ones, workers_of};
 use crate::name::Naming;
 use crate::seat::Awaited;
 use std::alloc::Global;
 use std::sync::{Condvar, Mutex, Wait};
 use stm_desk::Answer;
-use stm_store::{Refused, Store, Way};
+use stm_store::{Refused, Store, Way, Worker};
 use txn::{Arguments, Call, Catalogue, TxId};
 
 /// A store that threads share: each call runs a transaction as one atomic step, and is told where in the one history
@@ -32,12 +33,17 @@ pub struct Service<N: Naming> {
     pub(crate) ended: Condvar,
     /// It rings where the host has said how it went with one.
     pub(crate) said: Condvar,
+    /// By which threads evaluate long calls; those that are idle.
+    pub(crate) workers: Mutex<Vec<Worker>>,
     ghost named: { catalogue.now ≡ N.catalogue } by { Prim.hlevel (codes, coded_listing) },
 }
 
 impl<N: Naming> Service<N> {
     /// The service of a store, whose ready tasks have had their turns then, and a front that has seen nothing of it.
     /// None of the store's tasks may be running. Chapters begin by themselves, and nobody keeps them.
+    ///
+    /// The workers that the store has left are the service's: by each of them one thread at a time evaluates a long
+    /// call, by its weight, beside what others commit. Of a store with none all are evaluated under the lock.
     ///
     /// A host is generic in the name `N`, and calls itself with the store's program and values, and with the history
     /// that it opened, for it.
@@ -93,14 +99,23 @@ impl<N: Naming> Service<N> {
         ensures keeps { result.0.keeps ≡ are_kept }
         ensures front { result.1 ≡ [] }
     {
+        let mut store = store;
         let catalogue = store.catalogue();
-        let (behind, front) = Behind::new(rt, alloc, store, opened, are_kept);
+        let workers = workers_of(alloc, &mut store);
+        // Without workers each call is evaluated under the lock.
+        let long = if workers.is_empty() {
+            Vec::new(alloc)
+        } else {
+            long_ones(alloc, catalogue)
+        };
+        let (behind, front) = Behind::new(rt, alloc, store, long, opened, are_kept);
         let service = Service {
             catalogue,
             keeps: are_kept,
             behind: Mutex::new(behind),
             ended: Condvar::new(),
             said: Condvar::new(),
+            workers: Mutex::new(workers),
         };
         (service, front)
     }
@@ -108,6 +123,11 @@ impl<N: Naming> Service<N> {
     /// Runs the transaction with these arguments as one atomic step. Where it retries the calling thread waits until
     /// its task has been entered. The answer is its entry, which stands in the history behind all that the front had
     /// seen; the front has then seen it.
+    ///
+    /// A short transaction runs under the lock. A long one is evaluated by the calling thread beside what others commit,
+    /// and again when it is woken: the lock is taken only to submit and to enter it. It runs under the lock where no
+    /// worker is idle, where others changed what it read in eight tries, and where, before it is entered, a chapter
+    /// ends or the report or the file is asked for.
     ///
     /// `Unknown` exactly where there is no such transaction, or it has not as many parameters as there are arguments.
     /// `Memory`: a growth was refused, and its task was given up, which the front has then seen. `NoRoom`: each place
@@ -130,7 +150,8 @@ impl<N: Naming> Service<N> {
     }
 
     /// As `atomically`, but where the transaction retries the answer is `Retries`: it is not entered and never will
-    /// be, and retries on the values to which the history leads that the front has then seen.
+    /// be, and retries on the values to which the history leads that the front has then seen. A long one runs under the
+    /// lock too.
     pub fn try_atomically<R: Wait>(
         &self,
         rt: &R,
@@ -230,7 +251,7 @@ impl<N: Naming> Service<N> {
         }
     }
 
-    /// Waits until the call is told what became of it.
+    /// Waits until the call is told what became of it; a long one its thread evaluates.
     fn wait_for<R: Wait>(
         &self,
         rt: &R,
@@ -242,11 +263,18 @@ impl<N: Naming> Service<N> {
         ensures grows { Begins front.old front.new }
     {
         let mut behind = self.behind.lock(rt);
+        let mut tries = 0;
         for _ in rt.forever() {
             if let Some(answer) = behind.look(awaited, front) {
                 return answer;
             }
-            behind = bell.wait(rt, behind);
+            behind = match behind.job_of(awaited) {
+                Some(job) => self.go_on(rt, behind, &job, &mut tries),
+                None => {
+                    tries = 0;
+                    bell.wait(rt, behind)
+                }
+            };
         }
         unreachable!()
     }

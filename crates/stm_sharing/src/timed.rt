@@ -43,7 +43,8 @@ impl Time {
 
 impl<N: Naming> Service<N> {
     /// As `atomically`, for at most this time: then the answer is `TimedOut`, and its task was given up, which the
-    /// front has then seen. Where its task was entered before, its entry is the answer. Where the time is up while it
+    /// front has then seen. Where its task was entered before, its entry is the answer. While a long one is evaluated
+    /// nobody looks at the time, but what came of it is not entered once its time is up. Where the time is up while it
     /// waits for the host to say how it went with a chapter, there is no task of it, and the answer is `NoRoom`.
     pub fn atomically_within<R: Wait + Clock>(
         &self,
@@ -121,7 +122,7 @@ impl<N: Naming> Service<N> {
         }
     }
 
-    /// Waits until the call is told what became of it, or its time is up.
+    /// Waits until the call is told what became of it, or its time is up; a long one its thread evaluates.
     fn wait_within<R: Wait + Clock>(
         &self,
         rt: &R,
@@ -134,17 +135,23 @@ impl<N: Naming> Service<N> {
         ensures grows { Begins front.old front.new }
     {
         let mut behind = self.behind.lock(rt);
+        let mut tries = 0;
         for _ in rt.forever() {
             if let Some(answer) = behind.look(awaited, front) {
                 return answer;
             }
-            behind = match time.left(rt) {
-                Some(left) => bell.wait_timeout(rt, behind, left).0,
+            let Some(left) = time.left(rt) else {
+                if behind.give_up(rt, awaited, front) {
+                    return Err(Refused::TimedOut);
+                }
+                behind = bell.wait(rt, behind);
+                continue;
+            };
+            behind = match behind.job_of(awaited) {
+                Some(job) => self.go_on_within(rt, behind, &job, &mut tries, time),
                 None => {
-                    if behind.give_up(rt, awaited, front) {
-                        return Err(Refused::TimedOut);
-                    }
-                    bell.wait(rt, behind)
+                    tries = 0;
+                    bell.wait_timeout(rt, behind, left).0
                 }
             };
         }

@@ -2,12 +2,20 @@
 #![tactic(auto)]
 
 #[cfg(test)]
+mod answered;
+#[cfg(test)]
 mod calls;
 #[cfg(test)]
 mod keepers;
 #[cfg(test)]
 mod keeping;
 #[cfg(test)]
+mod long;
+#[cfg(test)]
 mod looks;
 #[cfg(test)]
 mod played;
+#[cfg(test)]
+mod rows;
+#[cfg(test)]
+mod texts;

@@ -3,112 +3,55 @@
 ghost use Rattle.std.specs.Prelude.{◌≡◌};
 ghost use Rattle.stm_desk.specs.Asking.{IsStill};
 
+use crate::answered::{Answered, NOTHING, Step};
 use crate::keepers::{decline, keep, keep_all};
-use std::alloc::Global;
+use std::alloc::{AllocError, Global};
 use std::marker::Brand;
 use std::process::Abort;
 use std::sync::Wait;
+use std::thread;
 use std::thread::{Threads, map_indices};
 use std::time::{Clock, Duration};
-use stm_sharing::{Answer, Front, Naming, Opened, Refused, Service, both};
+use stm_sharing::{Front, Naming, Opened, Service, both};
 use stm_store::{Program, Store};
-use txn::{Arguments, Call, Outcome, TxId};
+use txn::{Arguments, Call, TxId};
 
-/// A buffer of two places: `put` tells how many were out then, `get` the number of the thing.
-pub(crate) const BUFFER: &str =
-    "(stm 3) (var out 0) (var given 0) (tx put () (if (le 2 out) (retry) (set out (add out 1))) out) \
-    (tx get () (if (eq out 0) (retry) (seq (set out (sub out 1)) (set given (add given 1)))) given) \
-    (tx give (n) (set given n) given)";
-
-pub(crate) const PUT: TxId = TxId(0);
-
-pub(crate) const GET: TxId = TxId(1);
-
-pub(crate) const GIVE: TxId = TxId(2);
-
-/// How a thread calls.
+/// How a test opens its service.
 #[derive(Clone, Copy)]
-pub(crate) enum Step {
-    /// So often, and waits each time.
-    Calls(TxId, u32),
-    /// So often, and never waits.
-    Tries(TxId, u32),
-    /// Once, with this argument.
-    Gives(TxId, i64),
-    /// Once, for so many milliseconds at most.
-    Within(TxId, u64),
-    /// Once each, the second by whoever was shown what the first had seen.
-    Both(TxId, TxId),
-    /// Once, when it has closed the service.
-    Closes(TxId),
-    /// With this argument, so often.
-    GivesOften(TxId, i64, u32),
-    /// With this argument, until a call is refused; then it closes the service.
-    GivesUntilRefused(TxId, i64),
-    /// Takes so many chapters, one after another, and keeps them.
-    Keeps(u32),
-    /// Takes what ends and keeps nothing, until the service is closed: then it keeps the last.
-    Declines(TxId, i64),
-    /// Calls so often with this argument, closes the service, and keeps all that ended.
-    ClosesAndKeeps(TxId, i64, u32),
+pub(crate) struct Opening {
+    pub(crate) file: &'static str,
+    pub(crate) room: usize,
+    pub(crate) workers: usize,
+    /// Whether its chapters are kept.
+    pub(crate) keeps: bool,
 }
 
-/// What a thread was answered.
-#[derive(Clone, Copy, Debug, PartialEq, Eq)]
-pub(crate) struct Answered {
-    pub(crate) returned: u32,
-    pub(crate) sum: i64,
-    pub(crate) retried: u32,
-    pub(crate) refused: u32,
-    /// How many answers stand behind the thread's answer before.
-    pub(crate) behind: u32,
-    /// How many chapters it kept, and how many of them follow the one that it kept before.
-    pub(crate) kept: u32,
-    pub(crate) following: u32,
-    /// How often it was told a chapter that it did not keep.
-    pub(crate) declined: u32,
-    /// Why it was told no chapter more.
-    pub(crate) untold: Option<Refused>,
-    last: Option<u64>,
+/// What each thread was answered, and how the service stands then.
+#[derive(Drop)]
+pub(crate) struct Ended {
+    pub(crate) answered: Vec<Answered>,
+    /// The report, empty where none was told.
+    pub(crate) report: String,
+    pub(crate) chapter: u64,
+    pub(crate) entered: u64,
 }
 
-pub(crate) const NOTHING: Answered = Answered {
-    returned: 0,
-    sum: 0,
-    retried: 0,
-    refused: 0,
-    behind: 0,
-    kept: 0,
-    following: 0,
-    declined: 0,
-    untold: None,
-    last: None,
-};
-
-impl Answered {
-    fn note_place(&mut self, place: u64) {
-        let is_behind = match self.last {
-            Some(last) => last < place,
-            None => true,
-        };
-        if is_behind {
-            self.behind = self.behind.wrapping_add(1);
+impl Ended {
+    /// What this thread was answered.
+    pub(crate) fn of(&self, thread: usize) -> Answered {
+        match self.answered.get(thread) {
+            Some(answered) => *answered,
+            None => NOTHING,
         }
-        self.last = Some(place);
     }
 
-    pub(crate) fn note(&mut self, answer: Result<Answer, Refused>) {
-        match answer {
-            Ok(answer) => {
-                self.note_place(answer.place);
-                if let Outcome::Returned(value) = answer.outcome {
-                    self.returned = self.returned.wrapping_add(1);
-                    self.sum = self.sum.wrapping_add(value);
-                }
-            }
-            Err(Refused::Retries) => self.retried = self.retried.wrapping_add(1),
-            Err(_) => self.refused = self.refused.wrapping_add(1),
+    /// What all of them were answered together.
+    pub(crate) fn all(&self) -> Answered {
+        let mut all = NOTHING;
+        for answered in &self.answered {
+            all.add(answered);
         }
+        all
     }
 }
 
@@ -136,8 +79,51 @@ fn call_of(tx: TxId) -> Call {
     }
 }
 
+/// Each kind of call, with this argument.
+fn give_each<R: Wait + Clock, N: Naming>(
+    rt: &R,
+    service: &Service<N>,
+    tx: TxId,
+    argument: i64,
+    front: &mut Front<N>,
+    answered: &mut Answered,
+) {
+    let time = Duration::from_micros(0);
+    answered.note(service.atomically(rt, tx, &[argument], front));
+    answered.note(service.try_atomically(rt, tx, &[argument], front));
+    answered.note(service.atomically_within(rt, time, tx, &[argument], front));
+}
+
+fn wait_until<R: Wait + Clock, N: Naming>(
+    rt: &R,
+    service: &Service<N>,
+    count: usize,
+    front: &mut Front<N>,
+) {
+    for _ in rt.forever() {
+        if service.counts(rt, front).parked == count {
+            return;
+        }
+        thread::sleep(rt, Duration::from_millis(2));
+    }
+}
+
+/// Closes the service, and asks for its file and its report: how many entries came of that.
+fn entered_late<R: Wait, N: Naming>(rt: &R, service: &Service<N>, front: &mut Front<N>) -> i64 {
+    service.close(rt);
+    let before = service.entered(rt, front);
+    let _file = service.file(rt, front);
+    let _report = service.report(rt, front);
+    service
+        .entered(rt, front)
+        .wrapping_sub(before)
+        .cast_signed()
+}
+
+/// One step of a thread.
 fn play<R: Wait + Clock, N: Naming>(
     rt: &R,
+    alloc: Global,
     service: &Service<N>,
     step: Step,
     front: &mut Front<N>,
@@ -154,27 +140,30 @@ fn play<R: Wait + Clock, N: Naming>(
                 answered.note(service.try_atomically(rt, tx, &[], front));
             }
         }
+        Step::Within(more, tx, times) => {
+            for i in 0..times {
+                let time = Duration::from_micros(more.wrapping_mul(u64::from(i)));
+                answered.note(service.atomically_within(rt, time, tx, &[], front));
+            }
+        }
         Step::Gives(tx, argument) => {
             answered.note(service.atomically(rt, tx, &[argument], front));
         }
-        Step::Within(tx, time) => {
-            let time = Duration::from_millis(time);
-            answered.note(service.atomically_within(rt, time, tx, &[], front));
-        }
+        Step::GivesEach(tx, argument) => give_each(rt, service, tx, argument, front, answered),
         Step::Both(one, two) => {
             call_both(rt, service, (call_of(one), call_of(two)), front, answered);
         }
-        Step::Closes(tx) => {
-            service.close(rt);
-            answered.note(service.atomically(rt, tx, &[], front));
-        }
-        _ => play_with_chapters(rt, service, step, front, answered),
+        Step::UntilWaiting(count) => wait_until(rt, service, count, front),
+        Step::Closes => service.close(rt),
+        Step::ClosesAndAsks => answered.late = entered_late(rt, service, front),
+        _ => play_with_chapters(rt, alloc, service, step, front, answered),
     }
 }
 
 /// The same of the steps of a service whose chapters are kept.
 fn play_with_chapters<R: Wait + Clock, N: Naming>(
     rt: &R,
+    alloc: Global,
     service: &Service<N>,
     step: Step,
     front: &mut Front<N>,
@@ -182,34 +171,17 @@ fn play_with_chapters<R: Wait + Clock, N: Naming>(
 ) {
     match step {
         Step::GivesOften(tx, argument, times) => {
-            give_often(rt, service, tx, argument, times, front, answered);
+            for _ in 0..times {
+                answered.note(service.atomically(rt, tx, &[argument], front));
+            }
         }
         Step::GivesUntilRefused(tx, argument) => {
             give_until_refused(rt, service, tx, argument, front, answered);
         }
-        Step::Keeps(times) => keep(rt, service, times, answered),
-        Step::Declines(tx, argument) => decline(rt, service, tx, argument, front, answered),
-        Step::ClosesAndKeeps(tx, argument, times) => {
-            give_often(rt, service, tx, argument, times, front, answered);
-            service.close(rt);
-            keep_all(rt, service, answered);
-        }
+        Step::Keeps(times) => keep(rt, alloc, service, times, answered),
+        Step::Declines(tx, argument) => decline(rt, alloc, service, tx, argument, front, answered),
+        Step::KeepsAll => keep_all(rt, alloc, service, answered),
         _ => {}
-    }
-}
-
-/// Calls with this argument, so often.
-fn give_often<R: Wait, N: Naming>(
-    rt: &R,
-    service: &Service<N>,
-    tx: TxId,
-    argument: i64,
-    times: u32,
-    front: &mut Front<N>,
-    answered: &mut Answered,
-) {
-    for _ in 0..times {
-        answered.note(service.atomically(rt, tx, &[argument], front));
     }
 }
 
@@ -232,36 +204,67 @@ fn give_until_refused<R: Wait, N: Naming>(
     }
 }
 
-/// The step of this thread, which has seen this.
-fn played_from<R: Wait + Clock, N: Naming>(
+/// A step of one of the threads.
+#[derive(Clone, Copy)]
+struct Act {
+    thread: usize,
+    step: Step,
+}
+
+/// The steps of a thread more.
+fn add_steps(acts: &mut Vec<Act>, thread: usize, steps: &[Step]) -> Result<(), AllocError> {
+    for step in steps {
+        acts.push(Act {
+            thread,
+            step: *step,
+        })?;
+    }
+    Ok(())
+}
+
+/// The steps of all threads.
+fn acts_of(alloc: Global, threads: &[&[Step]]) -> Result<Vec<Act>, AllocError> {
+    let mut acts = Vec::new(alloc);
+    for thread in 0..threads.len() {
+        add_steps(&mut acts, thread, threads[thread])?;
+    }
+    Ok(acts)
+}
+
+/// All steps of this thread, which has seen this.
+fn play_all<R: Wait + Clock, N: Naming>(
     rt: &R,
+    alloc: Global,
     service: &Service<N>,
     first: &Front<N>,
-    steps: &[Step],
+    acts: &Vec<Act>,
     thread: usize,
 ) -> Answered {
     let mut front = first.again();
     let mut answered = NOTHING;
-    if let Some(step) = steps.get(thread) {
-        play(rt, service, *step, &mut front, &mut answered);
+    for act in acts.iter() {
+        if act.thread == thread {
+            play(rt, alloc, service, act.step, &mut front, &mut answered);
+        }
     }
     front.law();
     answered
 }
 
-/// The step of each thread, side by side, from what was seen before.
+/// What so many threads are answered, side by side, from what was seen before.
 fn side_by_side<R: Threads + Wait + Clock + Sync, N: Naming + Sync>(
     rt: &R,
     alloc: Global,
     service: &Service<N>,
     first: &Front<N>,
-    steps: &[Step],
+    acts: &Vec<Act>,
+    count: usize,
 ) -> Vec<Answered> {
     let all = map_indices(
         rt,
         alloc,
-        steps.len(),
-        &|i| played_from(rt, service, first, steps, i),
+        count,
+        &|i| play_all(rt, alloc, service, first, acts, i),
     );
     match all {
         Ok(all) => all,
@@ -269,59 +272,74 @@ fn side_by_side<R: Threads + Wait + Clock + Sync, N: Naming + Sync>(
     }
 }
 
-fn played_by<R: Threads + Wait + Clock + Sync, N: Naming + Sync>(
+/// The threads call the service side by side, and it is looked at when all are done.
+fn ended_by<R: Threads + Wait + Clock + Abort + Sync, N: Naming + Sync>(
+    rt: &R,
+    alloc: Global,
+    service: &Service<N>,
+    first: Front<N>,
+    threads: &[&[Step]],
+) -> Ended {
+    let Ok(acts) = acts_of(alloc, threads) else {
+        panic!(rt; "no memory");
+    };
+    let answered = side_by_side(rt, alloc, service, &first, &acts, threads.len());
+    let mut front = first;
+    let report = match service.report(rt, &mut front) {
+        Ok(report) => report,
+        Err(_) => String::new(alloc),
+    };
+    Ended {
+        answered,
+        report,
+        chapter: service.chapter(rt, &mut front),
+        entered: service.entered(rt, &mut front),
+    }
+}
+
+fn played_by<R: Threads + Wait + Clock + Abort + Sync, N: Naming + Sync>(
     rt: &R,
     alloc: Global,
     store: Store,
     opened: Opened,
-    keeping: bool,
-    steps: &[Step],
-) -> Vec<Answered>
+    keeps: bool,
+    threads: &[&[Step]],
+) -> Ended
     requires named { store.catalogue.now ≡ N.catalogue }
     requires placed { store.book.present.state ≡ N.first }
     requires book { opened.seen.book ≡ N.book }
     requires still { IsStill store }
     requires fresh { store.book.catalogue.initial ≡ N.first }
 {
-    let (service, first) = if keeping {
+    let (service, first) = if keeps {
         Service::<N>::open_keeping(rt, alloc, store, opened)
     } else {
         Service::<N>::open(rt, alloc, store, opened)
     };
-    side_by_side(rt, alloc, &service, &first, steps)
+    ended_by(rt, alloc, &service, first, threads)
 }
 
-/// What the threads are answered, on a service of the buffer that was just opened. A chapter has room for eight tasks.
+/// What threads are answered that call a service, each by its steps.
 pub(crate) fn played<R: Threads + Wait + Clock + Abort + Sync>(
     rt: &R,
     alloc: Global,
-    steps: &[Step],
-) -> Vec<Answered> {
-    played_as(rt, alloc, false, steps)
-}
-
-/// The same, where chapters are kept.
-pub(crate) fn played_keeping<R: Threads + Wait + Clock + Abort + Sync>(
-    rt: &R,
-    alloc: Global,
-    steps: &[Step],
-) -> Vec<Answered> {
-    played_as(rt, alloc, true, steps)
-}
-
-fn played_as<R: Threads + Wait + Clock + Abort + Sync>(
-    rt: &R,
-    alloc: Global,
-    keeping: bool,
-    steps: &[Step],
-) -> Vec<Answered> {
-    let Ok(program) = Program::read(alloc, BUFFER.as_bytes()) else {
+    opening: Opening,
+    threads: &[&[Step]],
+) -> Ended {
+    let Ok(program) = Program::read(alloc, opening.file.as_bytes()) else {
         panic!(rt; "no program");
     };
-    let tasks = program.catalogue().tasks();
-    assert!(rt; tasks == 0);
-    let Ok(store) = Store::open_with_room(alloc, program, 0, 0, 8) else {
+    let Opening {
+        file: _,
+        room,
+        workers,
+        keeps,
+    } = opening;
+    assert!(rt; workers <= 32);
+    assert!(rt; room <= 65_536);
+    assert!(rt; program.catalogue().tasks() + room <= 65_536);
+    let Ok(store) = Store::open_with_room(alloc, program, workers, 0, room) else {
         panic!(rt; "no store");
     };
-    played_by::<_, Brand>(rt, alloc, store, Opened::new(), keeping, steps)
+    played_by::<_, Brand>(rt, alloc, store, Opened::new(), keeps, threads)
 }

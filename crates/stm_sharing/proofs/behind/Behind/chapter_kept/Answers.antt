@@ -24,12 +24,6 @@ invariant_of-self-clause-placed g c =
     let is = taken_back s.desk.work c.kept.new.self.work c.args.chapter.ended last.Kept (Ok tt) c.in-Ok.ensures in
     ap (λ (x : Store). x.book.present.state) is.first ∙ s.placed
 
-pub invariant_of-self-clause-short : goal.invariant_of-self-clause-short
-invariant_of-self-clause-short g c =
-    let s = c.args.self.now in
-    let is = taken_back s.desk.work c.kept.new.self.work c.args.chapter.ended last.Kept (Ok tt) c.in-Ok.ensures in
-    is.long ∙ s.short
-
 pub invariant_of-self-clause-kept : goal.invariant_of-self-clause-kept
 invariant_of-self-clause-kept g c dropped = ∣ ap (λ (w : Work). w.last) c.in-Ok.ensures.1 ∣₁
 
