@@ -26,8 +26,10 @@ pub use Rattle.stm_store.specs.Bringing
 pub use Rattle.stm_store.specs.Turning
 pub use Rattle.stm_store.specs.Telling
 -- services
-pub use Rattle.stm_service.specs.Answering
-pub use Rattle.stm_service.specs.Observations
-pub use Rattle.stm_service.specs.Seeing
+pub use Rattle.stm_desk.specs.History
+pub use Rattle.stm_desk.specs.Keeping as Entries
+pub use Rattle.stm_service.specs.Telling as Answering
+pub use Rattle.stm_service.specs.Keeping as Kept
+pub use Rattle.stm_service.specs.Looking
 -- journals in lines
 pub use Rattle.book_storage.specs.PackedEntries

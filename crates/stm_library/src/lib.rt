@@ -31,7 +31,7 @@ pub use stm_store::{
     Way, Worker,
 };
 // Calls of a store from any thread.
-pub use stm_service::{Archive, Client, Naming, NoArchive, Service};
+pub use stm_service::{Answer, Chapter, Ended, Front, Kept, Naming, Opened, Service, TooLong};
 // What stands under a store: cells that are read with no lock, attempts, and the book.
 pub use attempt::{Attempt, Next, Stand};
 pub use book::{Book, Counts, Finish, NotPlain, Serial, Standing};

@@ -1,36 +1,42 @@
--- A desk may go from one thread to another, and a service may be used by many at once.
+-- A front may go from one thread to another, and a service may be used by many at once.
 use denote.RattleType.{RattleType}
-use denote.Param.Send.{IsSend, IsSync, sendable}
+use denote.Param.Send.{IsSend, IsSync, sendable, shr_sync}
 use denote.Param.SendFields.{declared_send, declared_sync}
 use Rattle.std.proofs.Crossing.{crosses}
 use Rattle.std.proofs.MapsCrossing as maps
 use Rattle.std.specs.contracts.sync.Mutex as mutex
-use Rattle.stm_store.proofs.Crossing.{store_send, lender_send, worker_send}
+use Rattle.book.proofs.Crossing.{catalogue_sync}
+use Rattle.stm_store.proofs.Crossing.{worker_send}
 use Rattle.stm_store.proofs.job.Job.TheSendSync as job
-use Rattle.stm_service.specs.declared.answer.Naming.{Ghosts}
+use Rattle.stm_desk.proofs.Crossing.{desk_send}
+use Rattle.stm_service.specs.declared.name.Naming.{Ghosts}
+use Rattle.stm_service.proofs.chapter.Shelf.TheSendSync as shelf
+use Rattle.stm_service.proofs.front.Front.TheSendSync as front
+use Rattle.stm_service.proofs.front.Head.TheSendSync as head
 use Rattle.stm_service.proofs.seat.Seat.TheSendSync as seat
-use Rattle.stm_service.specs.contracts.client.Client as client
-use Rattle.stm_service.specs.contracts.desk.Desk as desk
+use Rattle.stm_service.specs.contracts.behind.Behind as behind
 use Rattle.stm_service.specs.contracts.service.Service as service
 
-pub desk_send : (N K : RattleType) (n : Ghosts N.Denot) → IsSend N → IsSend K → IsSend (desk.the_row N K n)
-desk_send N K n s k =
+pub behind_send : (N : RattleType) (n : Ghosts N.Denot) → IsSend N → IsSend (behind.the_row N n)
+behind_send N n s =
     let e = seat.the_send N n in
-    let d = lender_send in
+    let f = front.the_send N n in
+    let h = head.the_send N n in
+    let k = shelf.the_send N n in
     let j = job.the_send in
-    declared_send (desk.the_type N K n) (
+    declared_send (behind.the_type N n) (
       search (sendable, crosses) depth 20,
       (
-        store_send,
+        desk_send,
         (
           search (sendable, crosses) depth 20,
           (
-            search (sendable, crosses, maps.crosses) depth 30,
+            search (sendable, crosses) depth 20,
             (
               search (sendable, crosses) depth 20,
               (
                 search (sendable, crosses, maps.crosses) depth 30,
-                (search (sendable, crosses) depth 30, (search sendable, (search (sendable, crosses) depth 20, (search sendable, tt)))),
+                (search (sendable, crosses) depth 20, (search (sendable, crosses) depth 20, tt)),
               ),
             ),
           ),
@@ -38,11 +44,18 @@ desk_send N K n s k =
       ),
     )
 
-desk_sync : (N K : RattleType) (n : Ghosts N.Denot) → IsSend N → IsSend K → IsSync (mutex.the_row (desk.the_row N K n))
-desk_sync N K n s k = let h = desk_send N K n s k in search crosses depth 10
+behind_sync : (N : RattleType) (n : Ghosts N.Denot) → IsSend N → IsSync (mutex.the_row (behind.the_row N n))
+behind_sync N n s = let h = behind_send N n s in search crosses depth 10
 
-pub client_send : (N : RattleType) (n : Ghosts N.Denot) → IsSend N → IsSend (client.the_row N n)
-client_send N n s = declared_send (client.the_type N n) (worker_send, (search sendable, tt))
-
-pub service_sync : (N K : RattleType) (n : Ghosts N.Denot) → IsSend N → IsSend K → IsSync (service.the_row N K n)
-service_sync N K n s k = let c = client_send N n s in declared_sync (service.the_type N K n) (desk_sync N K n s k, (search (sendable, crosses) depth 20, tt))
+pub service_sync : (N : RattleType) (n : Ghosts N.Denot) → IsSend N → IsSync (service.the_row N n)
+service_sync N n s =
+    let c = catalogue_sync in
+    let r = shr_sync in
+    let w = worker_send in
+    declared_sync (service.the_type N n) (
+      search (sendable, crosses) depth 60,
+      (
+        search (sendable, crosses) depth 60,
+        (behind_sync N n s, (search (sendable, crosses) depth 60, (search (sendable, crosses) depth 60, (search (sendable, crosses) depth 60, tt)))),
+      ),
+    )

@@ -1,10 +1,12 @@
-mod Refusals
-mod Answered
-mod Begun
-mod Pages
-mod Paired
-mod Asked
-mod Observed
-mod Seen
-mod Heard
+pub mod Lists
+pub mod Adding
+pub mod Joining
+pub mod Histories
+pub mod Waiting
+pub mod Jobs
+pub mod Asking
+pub mod InTime
+pub mod Chapters
+pub mod Keeping
+pub mod Looking
 pub mod Crossing

@@ -1,5 +1,5 @@
-pub mod Answering
-pub mod Calling
+pub mod Beginning
 pub mod Keeping
-pub mod Observations
-pub mod Seeing
+pub mod Looking
+pub mod Pieces
+pub mod Telling

@@ -1,206 +1,137 @@
-//! Long transactions: their threads evaluate them beside the commits, and take the lock only to submit and to enter
-//! them.
+//! Long calls: the thread that made one evaluates it beside what others commit, and takes the lock only to bring what
+//! came of it.
 
-ghost use Rattle.std.specs.Prelude.{◌≡◌, ◌≢◌, Some, Ok, length, IfOk};
-ghost use Rattle.txn_programs.specs.Listing.{IsCallable};
-ghost use Rattle.txn_programs.specs.declared.ast.Outcome.{Outcome};
-ghost use Rattle.book.specs.Chapters.{entered_in_all};
-ghost use Rattle.stm_store.specs.declared.answers.End.TheVariants as End;
-ghost use Rattle.stm_store.specs.declared.answers.Entered.{Entered};
-ghost use Rattle.stm_service.specs.Answering.{IsAnswer, call_of};
-ghost use Rattle.stm_service.specs.Calling.{IsSubmitted};
-ghost use Rattle.stm_service.specs.Seeing.{IsEntryAt};
-ghost use Rattle.stm_service.specs.declared.desk.Found.TheVariants as Found;
+ghost use Rattle.std.specs.Prelude.{◌≡◌};
 
-use crate::answer::Naming;
-use crate::archive::Archive;
-use crate::client::Client;
-use crate::desk::{Desk, Found};
+use crate::behind::Behind;
+use crate::name::Naming;
+use crate::service::Service;
+use crate::timed::Time;
 use std::alloc::{AllocError, Global};
-use stm_store::{End, Job, Refused, Ticket};
+use std::sync::{MutexGuard, Wait};
+use std::time::Clock;
+use stm_store::{Job, Refused, Store, Worker};
+use txn::Catalogue;
 use txn::weights::{Size, Weights, sizes_of};
-use txn::{Call, Catalogue, TxId};
+
+/// How often a call is evaluated beside the commits before it has its turn under the lock.
+const TRIES: u32 = 8;
 
 /// Which transactions are long, as a run judges it that takes the least time: to evaluate one costs more than to give
-/// the lock back and to come for it again.
-pub(crate) fn long_ones(alloc: Global, catalogue: &Catalogue) -> Result<Vec<bool>, AllocError>
-    ensures { IfOk result (λ v. length v.items ≡ length catalogue.now.transactions) }
-{
-    let sizes = sizes_of(alloc, catalogue, Weights::LEAST_TIME)?;
-    marked(alloc, &sizes)
+/// the lock back and to come for it again. Out of memory none is: then each is evaluated under the lock.
+pub(crate) fn long_ones(alloc: Global, catalogue: &Catalogue) -> Vec<bool> {
+    match marked(alloc, catalogue) {
+        Ok(marks) => marks,
+        Err(_) => Vec::new(alloc),
+    }
 }
 
 /// Whether each is long.
-fn marked(alloc: Global, sizes: &[Size]) -> Result<Vec<bool>, AllocError>
-    ensures { IfOk result (λ v. length v.items ≡ length sizes.now) }
-{
+fn marked(alloc: Global, catalogue: &Catalogue) -> Result<Vec<bool>, AllocError> {
+    let sizes = sizes_of(alloc, catalogue, Weights::LEAST_TIME)?;
     let mut marks = Vec::with_capacity(alloc, sizes.len())?;
-    for size in sizes {
+    for size in &sizes {
         marks.push(matches!(*size, Size::Long))?;
     }
     Ok(marks)
 }
 
-impl<N: Naming, K: Archive + Drop> Desk<N, K> {
-    /// Whether the transaction is long, and the store has workers.
-    pub(crate) fn is_long(&self, tx: TxId) -> bool {
-        match self.long.get(tx.0 as usize) {
-            Some(long) => *long,
-            None => false,
-        }
+/// The workers that the store has left.
+pub(crate) fn workers_of(alloc: Global, store: &mut Store) -> Vec<Worker>
+    ensures book { store.new.book ≡ store.old.book }
+    ensures catalogue { store.new.catalogue.now ≡ store.old.catalogue.now }
+{
+    let mut workers = Vec::new(alloc);
+    while let Some(worker) = store.worker() {
+        // One for which there is no memory is let go.
+        let _ = workers.push(worker);
     }
+    workers
+}
 
-    /// A task of a long call, which is ready. `None` and no change where the transaction is short, or there is no room.
-    pub(crate) fn submit_long(&mut self, call: &Call) -> Option<Ticket>
-        requires { IsCallable N.catalogue call.now.tx call.now.arguments }
-        ensures submitted { IsSubmitted self.old.store call.now result self.new.store }
-        ensures closed { self.new.closed ≡ self.old.closed }
+/// The worker evaluates the job once. `Unknown`: no call of its program makes such a job, which is never so.
+fn tried(worker: &mut Worker, job: &Job) -> Result<(), Refused> {
+    if !worker
+        .catalogue()
+        .is_callable(job.tx, job.arguments.as_slice())
     {
-        if !self.is_long(call.tx) {
-            return None;
-        }
-        self.store.law();
-        self.store.submit(call.tx, call.arguments.as_slice()).ok()
+        return Err(Refused::Unknown);
     }
+    worker.try_job(*job)
+}
 
-    /// Whether a thread waits for the task and its transaction is long: then the thread evaluates it.
-    pub(crate) fn hand_over(&mut self, job: &Job) -> bool
-        ensures store { self.new.store ≡ self.old.store }
-        ensures closed { self.new.closed ≡ self.old.closed }
-    {
-        if !self.is_long(job.tx) {
+/// Whether the worker has come to an end of the job that is to be brought. `false` where it was tried often enough, or
+/// there is no memory for it.
+fn has_ended(worker: &mut Worker, job: &Job, tries: &mut u32) -> bool {
+    for _ in 0..TRIES {
+        if *tries >= TRIES {
             return false;
         }
-        let Some(bell) = self.bell_of(job.ticket) else {
-            return false;
-        };
-        if self.running.insert(job.ticket.0, *job).is_err() {
-            return false;
-        }
-        self.note(bell);
-        true
-    }
-
-    /// What the thread of this task is to evaluate.
-    pub(crate) fn running_of(&self, ticket: Ticket) -> Found
-        ensures over { (o : Outcome) → result ≢ Found.Over o }
-        ensures left { result ≢ Found.Left }
-    {
-        match self.running.get(&ticket.0) {
-            Some(job) => Found::Runs(*job),
-            None => Found::Nothing,
+        *tries += 1;
+        match tried(worker, job) {
+            Ok(()) => return true,
+            Err(Refused::Stale) => {}
+            Err(_) => return false,
         }
     }
+    false
+}
 
-    /// Its thread evaluates the task no longer.
-    pub(crate) fn is_over(&mut self, ticket: Ticket)
-        ensures store { self.new.store ≡ self.old.store }
-        ensures closed { self.new.closed ≡ self.old.closed }
-    {
-        let _job = self.running.remove(&ticket.0);
+impl<N: Naming> Service<N> {
+    /// Evaluates a long call once more beside what others commit, and brings what came of it: the lock is held before
+    /// and after, and not meanwhile. The call has its turn under the lock where no worker is idle, or it was tried
+    /// often enough.
+    pub(crate) fn go_on<'a, R: Wait>(
+        &'a self,
+        rt: &R,
+        behind: MutexGuard<'a, Behind<N>>,
+        job: &Job,
+        tries: &mut u32,
+    ) -> MutexGuard<'a, Behind<N>> {
+        drop(behind);
+        let mut lent = self.evaluated(rt, job, tries);
+        let mut behind = self.behind.lock(rt);
+        behind.end_job(rt, &mut lent, job);
+        self.give_back(rt, lent);
+        behind
     }
 
-    /// The task has its turn under the lock, where it is running still, and then all that it woke have theirs.
-    pub(crate) fn run_now(&mut self, job: &Job) {
-        self.is_over(job.ticket);
-        self.turn(job);
-        self.serve();
-    }
-
-    /// What a worker found of the task beside the commits is brought: the task is entered, or it waits. Where others
-    /// changed what it read, or it is running no more, or the service is closed, nothing changes.
-    pub(crate) fn bring(&mut self, client: &mut Client<N>, job: &Job)
-        requires { client.old.worker.ended ≡ Some job.now }
-    {
-        if self.closed {
-            return;
+    /// The same, if there is time left then; else nothing is brought.
+    pub(crate) fn go_on_within<'a, R: Wait + Clock>(
+        &'a self,
+        rt: &R,
+        behind: MutexGuard<'a, Behind<N>>,
+        job: &Job,
+        tries: &mut u32,
+        time: Time,
+    ) -> MutexGuard<'a, Behind<N>> {
+        drop(behind);
+        let mut lent = self.evaluated(rt, job, tries);
+        let mut behind = self.behind.lock(rt);
+        if time.left(rt).is_some() {
+            behind.end_job(rt, &mut lent, job);
         }
-        let Ok(end) = self.brought(client, job) else {
-            return;
-        };
-        self.hand(job, end);
-        self.is_over(job.ticket);
-        self.serve();
+        self.give_back(rt, lent);
+        behind
     }
 
-    /// The same: what came of it.
-    fn brought(&mut self, client: &mut Client<N>, job: &Job) -> Result<End, Refused>
-        requires { client.old.worker.ended ≡ Some job.now }
-        ensures answer { (e : Entered) → result ≡ Ok (End.Entered e)
-            → ∥ IsAnswer N.catalogue job.now.ticket (call_of job.now) e.outcome ∥₁ }
-        ensures entered { (e : Entered) → result ≡ Ok (End.Entered e)
-            → IsEntryAt N.catalogue (call_of job.now) e.outcome (entered_in_all self.new.store.book)
-            self.new.store.book.history }
-        ensures closed { self.new.closed ≡ self.old.closed }
-    {
-        self.store.law();
-        let brought = self.store.bring(&mut client.worker);
-        self.store.law();
-        brought
-    }
-
-    /// Gives what threads evaluate just then its turn, and what that woke, or gives it up where the service is closed:
-    /// so no task is ready or running, and each thread is told what came of its own.
-    pub(crate) fn settle(&mut self)
-        ensures tickets { self.new.store.tickets ≡ self.old.store.tickets }
-        ensures closed { self.new.closed ≡ self.old.closed }
-    {
-        self.turn_running();
-        self.turn_ready();
-        self.ring();
-    }
-
-    /// What threads evaluate just then is at its end.
-    fn turn_running(&mut self)
-        ensures tickets { self.new.store.tickets ≡ self.old.store.tickets }
-        ensures closed { self.new.closed ≡ self.old.closed }
-    {
-        while let Some((_, job)) = self.running.pop_first() {
-            self.end_running(&job);
+    /// An idle worker that has come to an end of the job. `None` where none is idle, it was tried often enough, or
+    /// there is no memory for it.
+    fn evaluated<R: Wait>(&self, rt: &R, job: &Job, tries: &mut u32) -> Option<Worker> {
+        let idle = self.workers.lock(rt).pop();
+        let mut worker = idle?;
+        if has_ended(&mut worker, job, tries) {
+            return Some(worker);
         }
+        self.give_back(rt, Some(worker));
+        None
     }
 
-    /// The running task has its turn under the lock; where the service is closed it is given up.
-    fn end_running(&mut self, job: &Job)
-        ensures tickets { self.new.store.tickets ≡ self.old.store.tickets }
-        ensures closed { self.new.closed ≡ self.old.closed }
-        ensures running { self.new.running ≡ self.old.running }
-    {
-        if self.closed {
-            self.shut_out(job);
-            return;
-        }
-        self.turn(job);
-    }
-
-    /// All that is ready has its turn under the lock, also what is long.
-    fn turn_ready(&mut self)
-        ensures tickets { self.new.store.tickets ≡ self.old.store.tickets }
-        ensures closed { self.new.closed ≡ self.old.closed }
-    {
-        while let Ok(job) = self.take() {
-            self.turn(&job);
-        }
-    }
-
-    /// Where the chapter has no room left, no task is ready or running in it: it can end then.
-    pub(crate) fn settle_if_full(&mut self)
-        ensures tickets { self.new.store.tickets ≡ self.old.store.tickets }
-        ensures closed { self.new.closed ≡ self.old.closed }
-    {
-        if self.closed || self.store.spare() > 0 {
-            return;
-        }
-        self.settle();
-    }
-
-    /// Rings the bells that are to be rung.
-    pub(crate) fn ring(&mut self)
-        ensures store { self.new.store ≡ self.old.store }
-        ensures closed { self.new.closed ≡ self.old.closed }
-    {
-        for bell in self.rung().iter() {
-            bell.notify_one();
+    /// The worker, where one was lent, is idle again.
+    fn give_back<R: Wait>(&self, rt: &R, lent: Option<Worker>) {
+        if let Some(worker) = lent {
+            // There is room for each: it was one of them.
+            let _ = self.workers.lock(rt).push(worker);
         }
     }
 }

@@ -1,49 +1,45 @@
-//! Where a thread that waits is told what came of its task.
+//! Where a thread that waits is told what became of its call.
 
-ghost use Rattle.std.specs.Prelude.{◌≡◌, ◌<◌, ◌⊎◌, ℕ, true};
-ghost use Rattle.txn_programs.specs.declared.ast.Outcome.{Outcome};
-ghost use Rattle.stm_service.specs.Answering.{IsAnswer};
-ghost use Rattle.stm_service.specs.declared.seat.Told.TheVariants as Told;
+ghost use Rattle.std.specs.Prelude.{◌≡◌, ◌≢◌, ℕ, true, false, IfSome, None, Some};
+ghost use Rattle.std.specs.BTreeMap.{get};
+ghost use Rattle.std.specs.Option.{ForSome};
+ghost use Rattle.std.specs.Ordering.{nat_cmp};
+ghost use Rattle.stm_desk.specs.History.{Begins};
+ghost use Rattle.stm_service.specs.Telling.{IsTold};
 
-use crate::answer::Naming;
-use std::marker::PhantomData;
+use crate::front::Front;
+use crate::name::Naming;
+use std::collections::BTreeMap;
 use std::sync::{Arc, Condvar};
-use stm_store::Ticket;
-use txn::{Call, Outcome};
+use stm_desk::Answer;
+use stm_store::{Job, Refused, Ticket};
+use txn::Call;
 use txn_declarations::same::same_values;
 
-/// The task that a thread waits for: its ticket, the call that it makes, and how many entries there were when the
-/// thread sat down.
+/// What a thread waits for: its ticket, and the call that it made.
 #[derive(Clone, Copy)]
 pub(crate) struct Awaited {
     pub(crate) ticket: Ticket,
     pub(crate) call: Call,
-    pub(crate) since: u64,
 }
 
-/// What a thread that waits is told.
-#[derive(Clone, Copy)]
-pub(crate) enum Told {
-    /// Its task retries still.
-    Nothing,
-    /// Its task was entered, as the entry of this number, counted through all chapters.
-    Entered(Outcome, u64),
-    /// Its task ran out of memory.
-    GivenUp,
-    /// Its task ran when the service was closed, and is given up.
-    ShutOut,
+/// What became of a call, and a history that has it.
+#[derive(Drop)]
+pub(crate) struct Heard<N: Naming> {
+    pub(crate) answer: Result<Answer, Refused>,
+    pub(crate) front: Front<N>,
 }
 
-/// The seat of a thread that waits: for the task of which call, and the bell that rings for it.
+/// The seat of a thread that waits, with the bell that rings for it.
 #[derive(Drop)]
 pub(crate) struct Seat<N: Naming> {
-    ticket: Ticket,
+    pub(crate) ticket: Ticket,
     pub(crate) call: Call,
-    pub(crate) told: Told,
     bell: Arc<Condvar>,
-    of: PhantomData<N>,
-    ghost is: { (o : Outcome) (number : ℕ) → told ≡ Told.Entered o number
-        → ∥ IsAnswer N.catalogue ticket call o ∥₁ },
+    /// What its thread is to evaluate, where its call is long and runs.
+    pub(crate) job: Option<Job>,
+    pub(crate) heard: Option<Heard<N>>,
+    ghost told: { ForSome heard (λ h. ∥ IsTold h.front ticket call h.answer ∥₁) },
 }
 
 /// Whether the two are calls of the same transaction with the same arguments.
@@ -54,77 +50,127 @@ fn are_same(a: &Call, b: &Call) -> bool
 }
 
 impl<N: Naming> Seat<N> {
-    /// Of a task that waits.
-    pub(crate) fn new(awaited: &Awaited, bell: Arc<Condvar>) -> Seat<N>
-        ensures { result.told ≡ Told.Nothing }
+    /// Of a call that waits; a long one is to be evaluated.
+    pub(crate) fn new(awaited: &Awaited, bell: Arc<Condvar>, job: Option<Job>) -> Seat<N>
+        ensures untold { result.heard ≡ None }
+        ensures call { result.call ≡ awaited.now.call }
+        ensures ticket { result.ticket ≡ awaited.now.ticket }
     {
         Seat {
             ticket: awaited.ticket,
             call: awaited.call,
-            told: Told::Nothing,
             bell,
-            of: PhantomData,
+            job,
+            heard: None,
         }
     }
 
-    /// Whether it is the seat of this task.
-    fn is_of(&self, ticket: Ticket, call: &Call) -> bool
-        ensures ticket { result ≡ true → self.now.ticket ≡ ticket }
-        ensures call { result ≡ true → self.now.call ≡ call.now }
+    /// Whether it is the seat of this call.
+    fn is_of(&self, awaited: &Awaited) -> bool
+        ensures ticket { result ≡ true → self.now.ticket ≡ awaited.now.ticket }
+        ensures call { result ≡ true → self.now.call ≡ awaited.now.call }
     {
-        self.ticket.0 == ticket.0 && are_same(&self.call, call)
+        self.ticket.0 == awaited.ticket.0 && are_same(&self.call, &awaited.call)
     }
 
-    /// What it tells of this task. Of any other one, and of an entry that was there before, it is nothing.
-    pub(crate) fn told_of(&self, awaited: &Awaited) -> Told
-        ensures answer { (o : Outcome) (number : ℕ) → result ≡ Told.Entered o number
-            → ∥ IsAnswer N.catalogue awaited.now.ticket awaited.now.call o ∥₁ }
-        ensures entered { (o : Outcome) (number : ℕ) → result ≡ Told.Entered o number
-            → (awaited.now.since < number) × (self.now.call ≡ awaited.now.call)
-            × (self.now.told ≡ Told.Entered o number) }
+    /// What its thread is told, which learns the history that has it. `None` and no change where there is nothing yet.
+    pub(crate) fn hear(
+        &self,
+        awaited: &Awaited,
+        front: &mut Front<N>,
+    ) -> Option<Result<Answer, Refused>>
+        ensures told { IfSome result (λ answer. ∥ IsTold front.new awaited.now.ticket awaited.now.call answer ∥₁) }
+        ensures grows { Begins front.old front.new }
+        ensures nothing { result ≡ None → front.new ≡ front.old }
     {
-        if !self.is_of(awaited.ticket, &awaited.call) {
-            return Told::Nothing;
+        if !self.is_of(awaited) {
+            return None;
         }
-        match self.told {
-            Told::Entered(outcome, number) if awaited.since < number => {
-                Told::Entered(outcome, number)
+        match &self.heard {
+            Some(heard) => {
+                front.learn(&heard.front);
+                Some(heard.answer)
             }
-            Told::GivenUp => Told::GivenUp,
-            Told::ShutOut => Told::ShutOut,
-            Told::Entered(_, _) | Told::Nothing => Told::Nothing,
+            None => None,
         }
     }
 
-    /// What came of this task is told, if it is the seat's: the bell that is to be rung. `None` where it is not, or
-    /// was rung at once, out of memory.
-    pub(crate) fn tell(&mut self, ticket: Ticket, call: &Call, told: Told) -> Option<Arc<Condvar>>
-        requires { (o : Outcome) (number : ℕ) → told ≡ Told.Entered o number
-            → ∥ IsAnswer N.catalogue ticket call.now o ∥₁ }
-        ensures call { self.new.call ≡ self.old.call }
-        ensures told { (self.new.told ≡ self.old.told)
-            ⊎ (self.new.told ≡ told) × (self.new.call ≡ call.now) }
+    /// Its thread is told this, and called. Where it was told before, nothing changes.
+    fn tell(&mut self, answer: Result<Answer, Refused>, front: Front<N>)
+        requires { self.old.heard ≡ None → ∥ IsTold front self.old.ticket self.old.call answer ∥₁ }
+        ensures told { self.new.heard ≢ None }
+        ensures ticket { self.new.ticket ≡ self.old.ticket }
     {
-        if self.is_of(ticket, call) {
-            self.told = told;
-            return match Arc::clone(&self.bell) {
-                Ok(bell) => Some(bell),
-                Err(_) => {
-                    self.ring();
-                    None
-                }
-            };
+        if self.heard.is_some() {
+            return;
         }
-        None
-    }
-
-    /// Its bell. `None` where that is known to too many.
-    pub(crate) fn bell(&self) -> Option<Arc<Condvar>> {
-        Arc::clone(&self.bell).ok()
-    }
-
-    /// Calls its thread.
-    pub(crate) fn ring(&self) {
+        self.heard = Some(Heard { answer, front });
         self.bell.notify_one();
     }
+
+    /// This is what its thread is to evaluate, which is called where there is something.
+    fn hand(&mut self, job: Option<Job>)
+        ensures job { self.new.job ≡ job }
+        ensures ticket { self.new.ticket ≡ self.old.ticket }
+        ensures call { self.new.call ≡ self.old.call }
+        ensures heard { self.new.heard ≡ self.old.heard }
+    {
+        self.job = job;
+        if job.is_some() {
+            self.bell.notify_one();
+        }
+    }
+}
+
+/// This is what the thread at the seat of this ticket is to evaluate, where there is one.
+pub(crate) fn hand<N: Naming>(seats: &mut BTreeMap<u64, Seat<N>>, ticket: Ticket, job: Option<Job>)
+    ensures here { ForSome (get nat_cmp seats.new ticket.0) (λ new. (new.job ≡ job)
+        × ForSome (get nat_cmp seats.old ticket.0) (λ old. (new.ticket ≡ old.ticket) × (new.call ≡ old.call)
+        × (new.heard ≡ old.heard))) }
+    ensures nobody { get nat_cmp seats.old ticket.0 ≡ None → get nat_cmp seats.new ticket.0 ≡ None }
+    ensures others { (other : ℕ) → other ≢ ticket.0 → get nat_cmp seats.new other ≡ get nat_cmp seats.old other }
+{
+    let Some(seat) = seats.get_mut(&ticket.0) else {
+        return;
+    };
+    seat.hand(job);
+}
+
+/// The thread at the seat of this ticket is told this, where there is one.
+pub(crate) fn tell<N: Naming>(
+    seats: &mut BTreeMap<u64, Seat<N>>,
+    ticket: Ticket,
+    answer: Result<Answer, Refused>,
+    front: Front<N>,
+)
+    requires { ForSome (get nat_cmp seats.old ticket.0) (λ seat. (seat.ticket.0 ≡ ticket.0)
+        × (seat.heard ≡ None → ∥ IsTold front ticket seat.call answer ∥₁)) }
+    ensures here { ForSome (get nat_cmp seats.new ticket.0) (λ seat. (seat.ticket.0 ≡ ticket.0) × (seat.heard ≢ None)) }
+    ensures others { (other : ℕ) → other ≢ ticket.0 → get nat_cmp seats.new other ≡ get nat_cmp seats.old other }
+{
+    let Some(seat) = seats.get_mut(&ticket.0) else {
+        return;
+    };
+    seat.tell(answer, front);
+}
+
+/// The seat is the one of this ticket from now on. `false` and no change out of memory.
+pub(crate) fn put<N: Naming>(
+    seats: &mut BTreeMap<u64, Seat<N>>,
+    ticket: Ticket,
+    seat: Seat<N>,
+) -> bool
+    ensures here { result ≡ true → get nat_cmp seats.new ticket.0 ≡ Some seat }
+    ensures others { (other : ℕ) → other ≢ ticket.0 → get nat_cmp seats.new other ≡ get nat_cmp seats.old other }
+    ensures unchanged { result ≡ false → (other : ℕ) → get nat_cmp seats.new other ≡ get nat_cmp seats.old other }
+{
+    seats.insert(ticket.0, seat).is_ok()
+}
+
+/// There is no seat of this ticket any more.
+pub(crate) fn remove<N: Naming>(seats: &mut BTreeMap<u64, Seat<N>>, ticket: Ticket)
+    ensures gone { get nat_cmp seats.new ticket.0 ≡ None }
+    ensures others { (other : ℕ) → other ≢ ticket.0 → get nat_cmp seats.new other ≡ get nat_cmp seats.old other }
+{
+    let _seat = seats.remove(&ticket.0);
 }

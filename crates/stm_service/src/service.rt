@@ -1,284 +1,281 @@
 //! Calls from any thread.
 
-ghost use Rattle.std.specs.Prelude.{◌≡◌, ◌≢◌, ◌⊎◌, string_bytes, Err, IfErr, IfOk};
+ghost use Rattle.std.specs.Prelude.{◌≡◌, ◌≢◌, [], true, false, Err, IfSome, None};
+ghost use Rattle.std.specs.Coded.{codes};
+ghost use Rattle.txn.specs.Codes.{coded_listing};
 ghost use Rattle.txn_programs.specs.Listing.{IsCallable};
-ghost use Rattle.attempt.specs.Room.{TakesMemory};
-ghost use Rattle.stm_service.specs.Answering.{IsAnswered, IsOfCall};
-ghost use Rattle.stm_service.specs.Observations.{IsObservation};
-ghost use Rattle.stm_service.specs.Keeping.{IsFileOfSome, IsReportOfSome};
 ghost use Rattle.stm_store.specs.declared.answers.Refused.TheVariants as Refused;
+ghost use Rattle.stm_store.specs.declared.answers.Way.TheVariants as Way;
+ghost use Rattle.stm_desk.specs.Asking.{IsStill};
+ghost use Rattle.stm_desk.specs.History.{Begins};
+ghost use Rattle.stm_service.specs.Telling.{IsAnswered, IsTold};
 
-use crate::answer::Naming;
-use crate::archive::Archive;
-use crate::calls::Begun;
-use crate::client::{Client, TRIES};
-use crate::desk::Desk;
-use crate::long::long_ones;
-use crate::waiting::{Time, try_long, wait_for, wait_within};
+use crate::behind::{Begun, Behind};
+use crate::front::{Front, Opened};
+use crate::long::{long_ones, workers_of};
+use crate::name::Naming;
+use crate::seat::Awaited;
 use std::alloc::Global;
-use std::sync::{Mutex, MutexGuard, Wait};
-use std::time::{Clock, Duration};
-use stm_store::{FileFault, Refused, ReportFault, Store, Way};
-use txn::{Memory, Outcome, TxId};
+use std::sync::{Condvar, Mutex, Wait};
+use stm_desk::Answer;
+use stm_store::{Refused, Store, Way, Worker};
+use txn::{Arguments, Call, Catalogue, TxId};
 
-/// A store that threads share: each call runs a transaction as one atomic step.
+/// A store that threads share: each call runs a transaction as one atomic step, and is told where in the one history
+/// of the service its entry stands.
 #[derive(Drop)]
-pub struct Service<N: Naming, K: Archive + Drop> {
-    pub(crate) desk: Mutex<Desk<N, K>>,
-    /// Who reads the cells beside the commits, and does not at present.
-    pub(crate) free: Mutex<Vec<Client<N>>>,
+pub struct Service<N: Naming> {
+    pub(crate) catalogue: &'static Catalogue,
+    /// Whether its host keeps the chapters.
+    pub(crate) keeps: bool,
+    pub(crate) behind: Mutex<Behind<N>>,
+    /// It rings where the host can take a chapter.
+    pub(crate) ended: Condvar,
+    /// It rings where the host has said how it went with one.
+    pub(crate) said: Condvar,
+    /// By which threads evaluate long calls; those that are idle.
+    pub(crate) workers: Mutex<Vec<Worker>>,
+    ghost named: { catalogue.now ≡ N.catalogue } by { Prim.hlevel (codes, coded_listing) },
 }
 
-impl<N: Naming, K: Archive + Drop> Service<N, K> {
-    /// The service of a store, whose ready tasks have had their turns then. So many calls can wait as the store has
-    /// room for. The workers that the store has left are the service's: each observes, or evaluates a long transaction,
-    /// beside the commits, for one thread at a time; what finds none free is evaluated under the lock. `Memory` only
-    /// where a growth was refused; then the store is let go.
+impl<N: Naming> Service<N> {
+    /// The service of a store, whose ready tasks have had their turns then, and a front that has seen nothing of it.
+    /// None of the store's tasks may be running. Chapters begin by themselves, and nobody keeps them.
     ///
-    /// A host is generic in the name `N`, and calls itself with the store's catalogue and cells for it.
-    pub fn open(alloc: Global, store: Store, archive: K) -> Result<Service<N, K>, Memory>
+    /// The workers that the store has left are the service's: by each of them one thread at a time evaluates a long
+    /// call, by its weight, beside what others commit. Of a store with none all are evaluated under the lock.
+    ///
+    /// A host is generic in the name `N`, and calls itself with the store's program and values, and with the history
+    /// that it opened, for it.
+    pub fn open<R: Wait>(
+        rt: &R,
+        alloc: Global,
+        store: Store,
+        opened: Opened,
+    ) -> (Service<N>, Front<N>)
         requires named { store.catalogue.now ≡ N.catalogue }
-        requires placed { store.cells ≡ N.cells }
+        requires placed { store.book.present.state ≡ N.first }
+        requires book { opened.seen.book ≡ N.book }
+        requires still { IsStill store }
+        ensures keeps { result.0.keeps ≡ false }
+        ensures front { result.1 ≡ [] }
     {
-        let mut store = store;
-        let free = readers(alloc, &mut store)?;
-        // Without workers each call is evaluated under the lock.
-        let long = if free.is_empty() {
-            Vec::new(alloc)
-        } else {
-            long_ones(alloc, store.catalogue())?
-        };
-        Ok(Service {
-            desk: Mutex::new(Desk::open(alloc, store, archive, long)),
-            free: Mutex::new(free),
-        })
+        Service::open_as(rt, alloc, store, opened, false)
     }
 
-    /// Runs the transaction with these arguments as one atomic step, and answers its outcome, `Returned` or `Thrown`.
-    /// Where it retries, the calling thread waits until its task has been entered. It never answers `Retries` or
-    /// `TimedOut`.
+    /// As `open`, of a service whose host keeps the chapters: it takes each that ended by `told_chapter`, and says by
+    /// `chapter_kept` or `chapter_not_kept` how it went. Until then there is room for one chapter more; who calls where
+    /// that is full too waits until the host has said so. Of the store nothing may have been entered in its present
+    /// chapter.
+    pub fn open_keeping<R: Wait>(
+        rt: &R,
+        alloc: Global,
+        store: Store,
+        opened: Opened,
+    ) -> (Service<N>, Front<N>)
+        requires named { store.catalogue.now ≡ N.catalogue }
+        requires placed { store.book.present.state ≡ N.first }
+        requires book { opened.seen.book ≡ N.book }
+        requires still { IsStill store }
+        requires fresh { store.book.catalogue.initial ≡ N.first }
+        ensures keeps { result.0.keeps ≡ true }
+        ensures front { result.1 ≡ [] }
+    {
+        Service::open_as(rt, alloc, store, opened, true)
+    }
+
+    fn open_as<R: Wait>(
+        rt: &R,
+        alloc: Global,
+        store: Store,
+        opened: Opened,
+        are_kept: bool,
+    ) -> (Service<N>, Front<N>)
+        requires named { store.catalogue.now ≡ N.catalogue }
+        requires placed { store.book.present.state ≡ N.first }
+        requires book { opened.seen.book ≡ N.book }
+        requires still { IsStill store }
+        requires fresh { are_kept ≡ true → store.book.catalogue.initial ≡ N.first }
+        ensures keeps { result.0.keeps ≡ are_kept }
+        ensures front { result.1 ≡ [] }
+    {
+        let mut store = store;
+        let catalogue = store.catalogue();
+        let workers = workers_of(alloc, &mut store);
+        // Without workers each call is evaluated under the lock.
+        let long = if workers.is_empty() {
+            Vec::new(alloc)
+        } else {
+            long_ones(alloc, catalogue)
+        };
+        let (behind, front) = Behind::new(rt, alloc, store, long, opened, are_kept);
+        let service = Service {
+            catalogue,
+            keeps: are_kept,
+            behind: Mutex::new(behind),
+            ended: Condvar::new(),
+            said: Condvar::new(),
+            workers: Mutex::new(workers),
+        };
+        (service, front)
+    }
+
+    /// Runs the transaction with these arguments as one atomic step. Where it retries the calling thread waits until
+    /// its task has been entered. The answer is its entry, which stands in the history behind all that the front had
+    /// seen; the front has then seen it.
     ///
-    /// A short transaction runs under the lock. A long one, by its weight, is evaluated by the calling thread beside
-    /// what others commit, and again when it is woken: the lock is taken only to submit and to enter it. It runs under
-    /// the lock where no worker is free, where others changed what it read in eight tries, and where, before it is
-    /// entered, a chapter ends or the report or the file is asked for. Where the service is closed before that, it is
-    /// given up.
+    /// A short transaction runs under the lock. A long one is evaluated by the calling thread beside what others commit,
+    /// and again when it is woken: the lock is taken only to submit and to enter it. It runs under the lock where no
+    /// worker is idle, where others changed what it read in eight tries, and where, before it is entered, a chapter
+    /// ends or the report or the file is asked for.
     ///
-    /// `Memory`: its task was given up, since a growth was refused. `NoRoom`: every task of the room waits, or the host
-    /// could not keep the chapter that had to end. `Unknown` exactly where there is no such transaction, or it has not
-    /// as many parameters as there are arguments (`Catalogue::is_callable`), unless the service is closed: then nothing
-    /// changed.
+    /// `Unknown` exactly where there is no such transaction, or it has not as many parameters as there are arguments.
+    /// `Memory`: a growth was refused, and its task was given up, which the front has then seen. `NoRoom`: each place
+    /// is of a task that waits; where a chapter is full, but the next one has room, that one begins. It is also
+    /// answered where the chapter is full, and the host did not keep the one before, or memory for the texts of this
+    /// one was refused. `Closed`: the service is closed. It is never another one.
     pub fn atomically<R: Wait>(
         &self,
         rt: &R,
         tx: TxId,
         arguments: &[i64],
-    ) -> Result<Outcome, Refused>
-        ensures answer { IfOk result (λ o. IsAnswered N.catalogue tx arguments.now o) }
-        ensures unknown { IfErr result (λ e. e ≡ Refused.Unknown → ¬ (IsCallable N.catalogue tx arguments.now)) }
-        ensures refused { ¬ (IsCallable N.catalogue tx arguments.now)
-            → (result ≡ Err Refused.Unknown) ⊎ (result ≡ Err Refused.Closed) }
-        ensures waits { IfErr result (λ e. IsOfCall e × (e ≢ Refused.Retries) × (e ≢ Refused.TimedOut)) }
+        front: &mut Front<N>,
+    ) -> Result<Answer, Refused>
+        ensures answered { ∥ IsAnswered N.catalogue N.first front.old
+            (record { tx = tx; arguments = arguments.now }) Way.Waits result front.new ∥₁ }
+        ensures grows { Begins front.old front.new }
+        ensures unknown { ¬ (IsCallable N.catalogue tx arguments.now) → result ≡ Err Refused.Unknown }
     {
-        let mut desk = self.desk.lock(rt);
-        match desk.call(tx, arguments, Way::Waits) {
-            Begun::Over(outcome) => {
-                let_go(desk);
-                Ok(outcome)
-            }
-            Begun::Waits(ticket, call) | Begun::Runs(ticket, call) => {
-                let awaited = desk.awaited(ticket, &call);
-                let (desk, answer) = wait_for(rt, self, desk, &awaited);
-                let_go(desk);
-                answer
-            }
-            Begun::NotKept => Err(Refused::NoRoom),
-            Begun::Refused(fault) => Err(fault),
-        }
+        self.call(rt, tx, arguments, Way::Waits, front)
     }
 
-    /// As `atomically`, but where the transaction retries the answer is `Retries`: it was not entered, and never will
-    /// be. A short one was not submitted then; the task of a long one is given up.
+    /// As `atomically`, but where the transaction retries the answer is `Retries`: it is not entered and never will
+    /// be, and retries on the values to which the history leads that the front has then seen. A long one runs under the
+    /// lock too.
     pub fn try_atomically<R: Wait>(
         &self,
         rt: &R,
         tx: TxId,
         arguments: &[i64],
-    ) -> Result<Outcome, Refused>
-        ensures answer { IfOk result (λ o. IsAnswered N.catalogue tx arguments.now o) }
-        ensures unknown { IfErr result (λ e. e ≡ Refused.Unknown → ¬ (IsCallable N.catalogue tx arguments.now)) }
-        ensures refused { ¬ (IsCallable N.catalogue tx arguments.now)
-            → (result ≡ Err Refused.Unknown) ⊎ (result ≡ Err Refused.Closed) }
-        ensures tries { IfErr result (λ e. IsOfCall e × (e ≢ Refused.TimedOut)) }
+        front: &mut Front<N>,
+    ) -> Result<Answer, Refused>
+        ensures answered { ∥ IsAnswered N.catalogue N.first front.old
+            (record { tx = tx; arguments = arguments.now }) Way.Tries result front.new ∥₁ }
+        ensures grows { Begins front.old front.new }
+        ensures unknown { ¬ (IsCallable N.catalogue tx arguments.now) → result ≡ Err Refused.Unknown }
     {
-        let mut desk = self.desk.lock(rt);
-        match desk.call(tx, arguments, Way::Tries) {
-            Begun::Over(outcome) => {
-                let_go(desk);
-                Ok(outcome)
-            }
-            Begun::Runs(ticket, call) => {
-                let awaited = desk.awaited(ticket, &call);
-                let (desk, answer) = try_long(rt, self, desk, &awaited);
-                let_go(desk);
-                answer
-            }
-            Begun::Waits(_, _) => unreachable!(),
-            Begun::NotKept => Err(Refused::NoRoom),
-            Begun::Refused(fault) => Err(fault),
-        }
+        self.call(rt, tx, arguments, Way::Tries, front)
     }
 
-    /// As `atomically`, for at most this time: then the answer is `TimedOut`, and the call has had no effect
-    /// and never will. Where its task was entered before, its outcome is the answer.
-    pub fn atomically_within<R: Wait + Clock>(
-        &self,
-        rt: &R,
-        time: Duration,
-        tx: TxId,
-        arguments: &[i64],
-    ) -> Result<Outcome, Refused>
-        ensures answer { IfOk result (λ o. IsAnswered N.catalogue tx arguments.now o) }
-        ensures unknown { IfErr result (λ e. e ≡ Refused.Unknown → ¬ (IsCallable N.catalogue tx arguments.now)) }
-        ensures refused { ¬ (IsCallable N.catalogue tx arguments.now)
-            → (result ≡ Err Refused.Unknown) ⊎ (result ≡ Err Refused.Closed) }
-        ensures waits { IfErr result (λ e. IsOfCall e × (e ≢ Refused.Retries)) }
-    {
-        let time = Time::from_now(rt, time);
-        let mut desk = self.desk.lock(rt);
-        match desk.call(tx, arguments, Way::Waits) {
-            Begun::Over(outcome) => {
-                let_go(desk);
-                Ok(outcome)
-            }
-            Begun::Waits(ticket, call) | Begun::Runs(ticket, call) => {
-                let awaited = desk.awaited(ticket, &call);
-                let (desk, answer) = wait_within(rt, self, desk, &awaited, time);
-                let_go(desk);
-                answer
-            }
-            Begun::NotKept => Err(Refused::NoRoom),
-            Begun::Refused(fault) => Err(fault),
-        }
-    }
-
-    /// How the transaction with these arguments would end on one state, which was the present one at some moment of
-    /// the call; it may retry there. Nothing is entered, and it is evaluated beside the commits, where a worker of the
-    /// store is free and the commits leave it a moment; else under the lock. It never answers `NoRoom`, `Retries` or
-    /// `TimedOut`, and `Memory` only of a transaction that takes memory.
-    pub fn observe<R: Wait>(&self, rt: &R, tx: TxId, arguments: &[i64]) -> Result<Outcome, Refused>
-        ensures answer { IfOk result (λ o. ∥ IsObservation N.catalogue tx arguments.now o ∥₁) }
-        ensures unknown { IfErr result (λ e. e ≡ Refused.Unknown → ¬ (IsCallable N.catalogue tx arguments.now)) }
-        ensures refused { ¬ (IsCallable N.catalogue tx arguments.now)
-            → (result ≡ Err Refused.Unknown) ⊎ (result ≡ Err Refused.Closed) }
-        ensures faults { IfErr result (λ e. IsOfCall e × (e ≢ Refused.NoRoom) × (e ≢ Refused.Retries)
-            × (e ≢ Refused.TimedOut)) }
-        ensures memory { IfErr result (λ e. e ≡ Refused.Memory → TakesMemory N.catalogue tx) }
-    {
-        let reader = self.free.lock(rt).pop();
-        let Some(mut reader) = reader else {
-            return self.desk.lock(rt).observe(tx, arguments);
-        };
-        let answer = self.observe_by(rt, &mut reader, tx, arguments);
-        self.give_back(rt, reader);
-        answer
-    }
-
-    /// The same, by this reader.
-    fn observe_by<R: Wait>(
-        &self,
-        rt: &R,
-        reader: &mut Client<N>,
-        tx: TxId,
-        arguments: &[i64],
-    ) -> Result<Outcome, Refused>
-        ensures answer { IfOk result (λ o. ∥ IsObservation N.catalogue tx arguments.now o ∥₁) }
-        ensures unknown { IfErr result (λ e. e ≡ Refused.Unknown → ¬ (IsCallable N.catalogue tx arguments.now)) }
-        ensures refused { ¬ (IsCallable N.catalogue tx arguments.now)
-            → (result ≡ Err Refused.Unknown) ⊎ (result ≡ Err Refused.Closed) }
-        ensures faults { IfErr result (λ e. IsOfCall e × (e ≢ Refused.NoRoom) × (e ≢ Refused.Retries)
-            × (e ≢ Refused.TimedOut)) }
-        ensures memory { IfErr result (λ e. e ≡ Refused.Memory → TakesMemory N.catalogue tx) }
-    {
-        if !reader.can_call(tx, arguments) {
-            return self.desk.lock(rt).observe(tx, arguments);
-        }
-        let observed = reader.observe_beside(tx, arguments);
-        let mut desk = self.desk.lock(rt);
-        match observed {
-            Ok(outcome) => desk.confirm(reader, tx, arguments, outcome),
-            Err(_) => desk.observe(tx, arguments),
-        }
-    }
-
-    /// A reader that is free, for this try of a long call. `None` where none is, or it was tried often enough.
-    pub(crate) fn reader<R: Wait>(&self, rt: &R, tries: u32) -> Option<Client<N>> {
-        if tries >= TRIES {
-            return None;
-        }
-        self.free.lock(rt).pop()
-    }
-
-    /// The reader is free again.
-    pub(crate) fn give_back<R: Wait>(&self, rt: &R, reader: Client<N>) {
-        // There is room for each: it was one of them.
-        let _ = self.free.lock(rt).push(reader);
-    }
-
-    /// Every call that waits and every later one is answered `Closed`, but for those whose task was entered
-    /// already, also those that evaluate a long transaction just then. What was entered stays. A report right after it
-    /// may list as parked the tasks of calls whose threads have not woken yet.
+    /// Nothing is entered from now on: each call that waits is answered `Closed`, and so is every later one. What was
+    /// entered stays.
     pub fn close<R: Wait>(&self, rt: &R) {
-        self.desk.lock(rt).close();
+        self.behind.lock(rt).close(rt);
+        self.said.notify_all();
+        self.ended.notify_all();
     }
 
-    /// The report of the present chapter at this moment. Long transactions that are evaluated beside the commits just
-    /// then have their turns before, or are given up where the service is closed.
-    pub fn report<R: Wait>(&self, rt: &R) -> Result<String, ReportFault>
-        ensures { IfOk result (λ text. ∥ IsReportOfSome N.catalogue (string_bytes text) ∥₁) }
+    /// Both, by the way.
+    fn call<R: Wait>(
+        &self,
+        rt: &R,
+        tx: TxId,
+        arguments: &[i64],
+        way: Way,
+        front: &mut Front<N>,
+    ) -> Result<Answer, Refused>
+        ensures answered { ∥ IsAnswered N.catalogue N.first front.old
+            (record { tx = tx; arguments = arguments.now }) way result front.new ∥₁ }
+        ensures grows { Begins front.old front.new }
+        ensures unknown { ¬ (IsCallable N.catalogue tx arguments.now) → result ≡ Err Refused.Unknown }
     {
-        self.desk.lock(rt).report()
+        self.catalogue.rules();
+        if !self.catalogue.is_callable(tx, arguments) {
+            return Err(Refused::Unknown);
+        }
+        let call = Call {
+            tx,
+            arguments: Arguments::of(arguments),
+        };
+        self.call_known(rt, &call, way, front)
     }
 
-    /// The file of the present chapter at this moment. Long transactions that are evaluated beside the commits just
-    /// then have their turns before, or are given up where the service is closed.
-    pub fn file<R: Wait>(&self, rt: &R) -> Result<String, FileFault>
-        ensures { IfOk result (λ text. ∥ IsFileOfSome N.catalogue (string_bytes text) ∥₁) }
+    /// The same of a call that can be made.
+    fn call_known<R: Wait>(
+        &self,
+        rt: &R,
+        call: &Call,
+        way: Way,
+        front: &mut Front<N>,
+    ) -> Result<Answer, Refused>
+        ensures answered { ∥ IsAnswered N.catalogue N.first front.old call.now way result front.new ∥₁ }
+        ensures grows { Begins front.old front.new }
     {
-        self.desk.lock(rt).file()
+        for _ in rt.forever() {
+            if let Some(answer) = self.call_once(rt, call, way, front) {
+                return answer;
+            }
+        }
+        unreachable!()
     }
 
-    /// The number of the present chapter, from 0 on.
-    pub fn chapter<R: Wait>(&self, rt: &R) -> u64 {
-        self.desk.lock(rt).store.chapter()
+    /// The same. `None` where it is to be made again, and the caller has seen nothing more.
+    fn call_once<R: Wait>(
+        &self,
+        rt: &R,
+        call: &Call,
+        way: Way,
+        front: &mut Front<N>,
+    ) -> Option<Result<Answer, Refused>>
+        ensures answered { IfSome result
+            (λ answer. ∥ IsAnswered N.catalogue N.first front.old call.now way answer front.new ∥₁) }
+        ensures grows { Begins front.old front.new }
+        ensures again { result ≡ None → front.new ≡ front.old }
+    {
+        let begun = self.behind.lock(rt).call(rt, call, way, front);
+        match begun {
+            Begun::Ended(answer) => Some(Ok(answer)),
+            Begun::Waits(awaited, bell) => Some(self.wait_for(rt, &awaited, &bell, front)),
+            Begun::Refused(why) => Some(Err(why)),
+            Begun::Again => {
+                self.ended.notify_all();
+                None
+            }
+            Begun::Later(sayings) => {
+                if self.wait_for_host(rt, sayings) {
+                    None
+                } else {
+                    Some(Err(Refused::NoRoom))
+                }
+            }
+        }
     }
 
-    /// How many entries there were in all chapters.
-    pub fn entered<R: Wait>(&self, rt: &R) -> u64 {
-        self.desk.lock(rt).store.entered()
-    }
-}
-
-/// A reader for each worker that the store has left.
-fn readers<N: Naming>(alloc: Global, store: &mut Store) -> Result<Vec<Client<N>>, Memory>
-    requires named { store.old.catalogue.now ≡ N.catalogue }
-    requires placed { store.old.cells ≡ N.cells }
-    ensures named { store.new.catalogue.now ≡ N.catalogue }
-    ensures placed { store.new.cells ≡ N.cells }
-{
-    let mut readers = Vec::new(alloc);
-    while let Some(worker) = store.worker() {
-        readers.push(Client::new(worker))?;
-    }
-    Ok(readers)
-}
-
-/// Lets the lock go, and then rings the bells of those that were served.
-pub(crate) fn let_go<N: Naming, K: Archive + Drop>(desk: MutexGuard<'_, Desk<N, K>>) {
-    let mut desk = desk;
-    let bells = desk.rung();
-    drop(desk);
-    for bell in bells.iter() {
-        bell.notify_one();
+    /// Waits until the call is told what became of it; a long one its thread evaluates.
+    fn wait_for<R: Wait>(
+        &self,
+        rt: &R,
+        awaited: &Awaited,
+        bell: &Condvar,
+        front: &mut Front<N>,
+    ) -> Result<Answer, Refused>
+        ensures told { ∥ IsTold front.new awaited.now.ticket awaited.now.call result ∥₁ }
+        ensures grows { Begins front.old front.new }
+    {
+        let mut behind = self.behind.lock(rt);
+        let mut tries = 0;
+        for _ in rt.forever() {
+            if let Some(answer) = behind.look(awaited, front) {
+                return answer;
+            }
+            behind = match behind.job_of(awaited) {
+                Some(job) => self.go_on(rt, behind, &job, &mut tries),
+                None => {
+                    tries = 0;
+                    bell.wait(rt, behind)
+                }
+            };
+        }
+        unreachable!()
     }
 }

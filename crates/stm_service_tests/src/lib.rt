@@ -1,27 +1,21 @@
-//! Tests of calls from any thread: each says what threads do side by side, and what they are answered.
+//! Tests of calls from any thread on one desk: each says what threads do side by side, and what they are answered.
 #![tactic(auto)]
 
 #[cfg(test)]
 mod answered;
 #[cfg(test)]
-mod chapters;
+mod calls;
 #[cfg(test)]
-mod clients;
+mod keepers;
 #[cfg(test)]
-mod closing;
-#[cfg(test)]
-mod counter;
-#[cfg(test)]
-mod limits;
+mod keeping;
 #[cfg(test)]
 mod long;
 #[cfg(test)]
-mod observed;
+mod looks;
 #[cfg(test)]
 mod played;
 #[cfg(test)]
+mod rows;
+#[cfg(test)]
 mod texts;
-#[cfg(test)]
-mod timed;
-#[cfg(test)]
-mod waiting;

@@ -4,12 +4,15 @@ use txn::TxId;
 
 /// A buffer of two places: `put` tells how many were out then, `get` the number of the thing.
 pub(crate) const BUFFER: &str =
-    "(var out 0) (var given 0) (tx put (if (le 2 out) (retry) (set out (add out 1))) out) \
-    (tx get (if (eq out 0) (retry) (seq (set out (sub out 1)) (set given (add given 1)))) given)";
+    "(stm 3) (var out 0) (var given 0) (tx put () (if (le 2 out) (retry) (set out (add out 1))) out) \
+    (tx get () (if (eq out 0) (retry) (seq (set out (sub out 1)) (set given (add given 1)))) given) \
+    (tx give (n) (set given n) given)";
 
 pub(crate) const PUT: TxId = TxId(0);
 
 pub(crate) const GET: TxId = TxId(1);
+
+pub(crate) const GIVE: TxId = TxId(2);
 
 /// `wait` asks for a number of its own, which `give` gives it: so each answer is another one.
 pub(crate) const OWN: &str =
@@ -25,18 +28,9 @@ pub(crate) const THROWS: &str =
 pub(crate) const HELD: &str =
     "(var n 0) (tx hold (if (lt n 1000) (retry) (skip)) n) (tx inc (set n (add n 1)) n)";
 
-/// One of the tasks that the file declares waits for a while.
-pub(crate) const KEPT: &str =
-    "(var n 0) (tx inc (set n (add n 1)) n) (tx hold (if (lt n 50) (retry) (skip)) n) (run hold 1)";
-
 /// As many tasks as a file may declare, less one.
 pub(crate) const MANY: &str =
     "(var n 0) (tx hold (if (eq n 0) (retry) (skip)) n) (tx none (skip) 4) (run hold 65535)";
-
-/// `a` and `b` are the same at all times, so `apart` is 0.
-pub(crate) const TWINS: &str =
-    "(stm 2) (var a 0) (var b 0) (always same (eq a b)) (tx both (seq (set a (add a 1)) (set b (add b 1))) a) \
-    (tx apart (skip) (sub a b))";
 
 /// No transaction.
 pub(crate) const NONE: &str = "(var x 3)";

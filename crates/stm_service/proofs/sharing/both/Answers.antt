@@ -1,15 +1,24 @@
-use denote.Param.Send.{sendable}
-use Rattle.std.proofs.Crossing.{crosses}
-use Rattle.txn_programs.proofs.ast.TxId.TheSendSync as tx_id
-use Rattle.txn_programs.proofs.arguments.Arguments.TheSendSync as arguments
-use Rattle.stm_service.proofs.Crossing.{service_sync}
+use Rattle.std.proofs.Common.{◌≡◌, List, ℤ, ap, subst}
+use Rattle.std.proofs.Math.Logic.{∥∥₁_map₂}
+use Rattle.txn_programs.specs.declared.arguments.Call.{Call}
+use Rattle.stm_desk.specs.Keeping.{IsEntry}
+use Rattle.stm_service.specs.Telling.{IsEnteredBehind}
+use Rattle.stm_service.proofs.Histories.{stands_behind}
 use Rattle.stm_service.proofs.sharing.both.Goals as goal
 
-pub join-requires-send-F : goal.join-requires-send-F
-join-requires-send-F g c κs within =
-    let a = tx_id.the_send in
-    let b = tx_id.the_sync in
-    let d = arguments.the_send in
-    let e = arguments.the_sync in
-    let s = service_sync _ _ g.N.Naming c.type_bounds.send-N c.type_bounds.send-K in
-    search (sendable, crosses) depth 20
+pub returns-clause-behind : goal.returns-clause-behind
+returns-clause-behind g c =
+    let a = c.in-Ok.a in
+    let b = c.in-Ok-atomically.b in
+    let x = c.args.calls.0 in
+    let y = c.args.calls.1 in
+    let first : Call = record { tx = x.tx; arguments = c.as_slice.result.now } in
+    let second : Call = record { tx = y.tx; arguments = c.as_slice-2.result.now } in
+    let is_first : first ≡ x = ap (λ (xs : List ℤ). record { tx = x.tx; arguments = xs }) c.as_slice.ensures.value in
+    let is_second : second ≡ y = ap (λ (xs : List ℤ). record { tx = y.tx; arguments = xs }) c.as_slice-2.ensures.value in
+    let seen = c.atomically.new.front in
+    let before = c.learn.new.self in
+    let now = c.atomically-2.new.front in
+    ∥∥₁_map₂ c.in-Ok.ensures.answered c.in-Ok-atomically.ensures.answered (λ (p : IsEnteredBehind c.args.one.now first a seen) (q : IsEnteredBehind before second b now).
+    stands_behind seen before now x y a b (subst (λ (call : Call). IsEntry seen a.ticket call a) is_first p.entry) c.learn.ensures.others c.atomically-2.ensures.grows
+    (subst (λ (call : Call). IsEnteredBehind before call b now) is_second q))

@@ -1,10 +1,7 @@
-use Rattle.std.proofs.Common.{◌∙◌}
-use Rattle.stm_service.proofs.Asked.{answered, begun_call, waited_answer}
+use Rattle.txn_programs.proofs.Lawful.{few_arguments}
 use Rattle.stm_service.proofs.service.Service.atomically_within.Goals as goal
 
-pub returns-in-Over-clause-answer : goal.returns-in-Over-clause-answer
-returns-in-Over-clause-answer g c = answered _ _ _ _ _ c.in-Over.ensures.begins
-
-pub returns-in-Waits-clause-answer : goal.returns-in-Waits-clause-answer
-returns-in-Waits-clause-answer g c =
-    waited_answer _ _ _ _ _ _ (c.awaited-awaited.ensures.call ∙ begun_call _ _ _ _ _ _ _ _ c.call.ensures.begins c.in-Waits.is) c.wait_within-desk.ensures.answer
+pub of-requires : goal.of-requires
+of-requires g c =
+    let s = c.args.self.now in
+    few_arguments s.catalogue.now c.args.tx c.args.arguments.now c.rules.ensures.limits (c.is_callable.ensures.0 c.if-not-is_callable.false)

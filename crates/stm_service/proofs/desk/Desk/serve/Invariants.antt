@@ -1,9 +1,0 @@
-use Rattle.std.proofs.Common.{◌≡◌}
-use Rattle.book.proofs.Draining.{weight_of}
-use Rattle.stm_service.proofs.desk.Desk.serve.Given as goal
-
-abbrev pub invariant-loop-job : goal.invariant-loop-job
-invariant-loop-job g l = l.self.closed ≡ l.initial.self.closed
-
-abbrev pub decreases-loop-job : goal.decreases-loop-job
-decreases-loop-job g l = weight_of l.self.store.book.tasks

@@ -1,8 +1,0 @@
-use Rattle.std.proofs.Common.{◌≡◌, length}
-use Rattle.stm_sharing.proofs.behind.Behind.hand_out.Given as goal
-
-abbrev pub invariant-loop : goal.invariant-loop
-invariant-loop g l = (l.self.front ≡ l.initial.self.front) × (l.self.desk.work.store ≡ l.initial.self.desk.work.store) × (l.self.shelf.are_kept ≡ l.initial.self.shelf.are_kept)
-
-abbrev pub decreases-loop : goal.decreases-loop
-decreases-loop g l = length l.self.desk.work.waiters.told.items

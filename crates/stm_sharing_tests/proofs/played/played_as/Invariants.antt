@@ -1,5 +1,0 @@
-use Rattle.stm_sharing_tests.proofs.played.played_as.Given as goal
-
--- the service is of this program and of the store's values, and shows its history in the book that was opened
-abbrev pub ghosts-played_by : goal.ghosts-played_by
-ghosts-played_by g a = record { catalogue = a.store.catalogue.now; first = a.store.book.present.state; book = a.opened.seen.book }
