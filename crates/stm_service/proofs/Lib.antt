@@ -3,7 +3,7 @@ pub mod Adding
 pub mod Joining
 pub mod Histories
 pub mod Waiting
-pub mod Jobs
+pub mod Handing
 pub mod Asking
 pub mod InTime
 pub mod Chapters

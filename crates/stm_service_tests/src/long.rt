@@ -22,11 +22,11 @@ const TWO_WORKERS: Opening = Opening {
     ..ALONE
 };
 
-const OFTEN: &[Step] = &[Step::Calls(ADD_SLOWLY, 20)];
+const OFTEN: &[Step] = &[Step::Calls(ADD_SLOWLY, 10)];
 
-const LONG: &[Step] = &[Step::Calls(ADD_SLOWLY, 30)];
+const LONG: &[Step] = &[Step::Calls(ADD_SLOWLY, 15)];
 
-const SHORT: &[Step] = &[Step::Calls(ADD, 600)];
+const SHORT: &[Step] = &[Step::Calls(ADD, 300)];
 
 const WAITS: &[Step] = &[Step::Calls(SLOW_GET, 1)];
 
@@ -71,26 +71,26 @@ const CLOSES: &[Step] = &[Step::Calls(ADD_SLOWLY, 5), Step::Closes];
 
 const ASKS: &[Step] = &[Step::Calls(ADD_SLOWLY, 1), Step::ClosesAndAsks];
 
-const HURRIES: &[Step] = &[Step::Within(1, ADD_SLOWLY, 200)];
+const HURRIES: &[Step] = &[Step::Within(1, ADD_SLOWLY, 100)];
 
 const ROWS: &[Row] = &[
     Row {
         name: "none is evaluated beside",
         opening: ALONE,
         threads: &[OFTEN, OFTEN, OFTEN],
-        wanted: Wanted::Numbered(60),
+        wanted: Wanted::Numbered(30),
     },
     Row {
         name: "there are more threads than workers",
         opening: TWO_WORKERS,
         threads: &[OFTEN, OFTEN, OFTEN],
-        wanted: Wanted::Numbered(60),
+        wanted: Wanted::Numbered(30),
     },
     Row {
         name: "what they read is changed again and again",
         opening: TWO_WORKERS,
         threads: &[LONG, SHORT, LONG, SHORT],
-        wanted: Wanted::Numbered(1260),
+        wanted: Wanted::Numbered(630),
     },
     Row {
         name: "long ones wait with no worker",
@@ -120,19 +120,19 @@ const ROWS: &[Row] = &[
         name: "time is up while they run",
         opening: TWO_WORKERS,
         threads: &[HURRIES, SHORT, HURRIES],
-        wanted: Wanted::Numbered(1000),
+        wanted: Wanted::Numbered(500),
     },
     Row {
         name: "closed while they run",
         opening: TWO_WORKERS,
         threads: &[LONG, LONG, CLOSES],
-        wanted: Wanted::Numbered(65),
+        wanted: Wanted::Numbered(35),
     },
     Row {
         name: "nothing is entered once it is closed",
         opening: TWO_WORKERS,
         threads: &[LONG, LONG, ASKS],
-        wanted: Wanted::Numbered(61),
+        wanted: Wanted::Numbered(31),
     },
     Row {
         name: "chapters end while they run",
@@ -143,7 +143,7 @@ const ROWS: &[Row] = &[
             keeps: false,
         },
         threads: &[LONG, SHORT, LONG],
-        wanted: Wanted::Numbered(660),
+        wanted: Wanted::Numbered(330),
     },
 ];
 
@@ -165,11 +165,11 @@ fn chapters_are_kept_while_they_run(rt: HostRuntime) {
         &rt,
         rt.alloc(),
         opening,
-        &[OFTEN, &[Step::Keeps(19)], OFTEN, OFTEN],
+        &[OFTEN, &[Step::Keeps(9)], OFTEN, OFTEN],
     );
-    assert_eq!(rt; all.entered, 60);
+    assert_eq!(rt; all.entered, 30);
     let keeper = all.of(1);
-    assert_eq!(rt; keeper.kept, 19);
-    assert_eq!(rt; keeper.good, 19);
-    assert_eq!(rt; keeper.following, 18);
+    assert_eq!(rt; keeper.kept, 9);
+    assert_eq!(rt; keeper.good, 9);
+    assert_eq!(rt; keeper.following, 8);
 }

@@ -4,7 +4,7 @@ use Rattle.std.specs.Ordering.{nat_cmp}
 use Rattle.std.proofs.lemmas.Bool.{cases_eq}
 use Rattle.txn_programs.specs.declared.arguments.Call.{Call}
 use Rattle.stm_service.specs.Telling.{IsAwaited}
-use Rattle.stm_service.proofs.Jobs.{sat_there}
+use Rattle.stm_service.proofs.Handing.{sat_there}
 use Rattle.stm_service.proofs.behind.Behind.hand.Goals as goal
 
 pub invariant_of-self-clause-seated : goal.invariant_of-self-clause-seated

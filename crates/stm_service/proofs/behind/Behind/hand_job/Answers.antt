@@ -3,7 +3,7 @@ use Rattle.std.proofs.Math.Logic.{∥∥₁_map}
 use Rattle.stm_store.specs.declared.store.Store.{Store}
 use Rattle.stm_desk.specs.declared.desk.Desk.{Desk}
 use Rattle.stm_service.proofs.Chapters.{kept_on}
-use Rattle.stm_service.proofs.Jobs.{fewer_due}
+use Rattle.stm_service.proofs.Handing.{fewer_due}
 use Rattle.stm_service.proofs.Keeping.{none_lies_on, starts_as}
 use Rattle.stm_service.proofs.Waiting.{awaited_on, carries_equal}
 use Rattle.stm_service.proofs.behind.Behind.hand_job.Goals as goal
