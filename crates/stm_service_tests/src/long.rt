@@ -26,7 +26,7 @@ const OFTEN: &[Step] = &[Step::Calls(ADD_SLOWLY, 10)];
 
 const LONG: &[Step] = &[Step::Calls(ADD_SLOWLY, 15)];
 
-const SHORT: &[Step] = &[Step::Calls(ADD, 300)];
+const MANY_SHORT: &[Step] = &[Step::Calls(ADD, 300)];
 
 const WAITS: &[Step] = &[Step::Calls(SLOW_GET, 1)];
 
@@ -89,7 +89,7 @@ const ROWS: &[Row] = &[
     Row {
         name: "what they read is changed again and again",
         opening: TWO_WORKERS,
-        threads: &[LONG, SHORT, LONG, SHORT],
+        threads: &[LONG, MANY_SHORT, LONG, MANY_SHORT],
         wanted: Wanted::Numbered(630),
     },
     Row {
@@ -119,7 +119,7 @@ const ROWS: &[Row] = &[
     Row {
         name: "time is up while they run",
         opening: TWO_WORKERS,
-        threads: &[HURRIES, SHORT, HURRIES],
+        threads: &[HURRIES, MANY_SHORT, HURRIES],
         wanted: Wanted::Numbered(500),
     },
     Row {
@@ -142,7 +142,7 @@ const ROWS: &[Row] = &[
             workers: 2,
             keeps: false,
         },
-        threads: &[LONG, SHORT, LONG],
+        threads: &[LONG, MANY_SHORT, LONG],
         wanted: Wanted::Numbered(330),
     },
 ];
