@@ -98,6 +98,23 @@ def tools_sum():
     return sum_of(*contents(here, ["judging.py", "proved_libraries.py"]))
 
 
+def file_of(path):
+    """The file that the edit of this path stands in: a path is must-fail/CRATE.edits#NAME."""
+    return path.partition("#")[0]
+
+
+def edits_of(file):
+    """The lines of each edit in the file, by its path; none where there is no such file."""
+    found, lines = {}, []
+    if os.path.exists(os.path.join(ROOT, file)):
+        for line in read(os.path.join(ROOT, file)).decode().splitlines():
+            if line.startswith("# "):
+                lines = found[f"{file}#{line[2:].strip()}"] = []
+            elif line:
+                lines.append(line)
+    return found
+
+
 def read_list():
     """The checksums that the list has, by the path of the edit."""
     if not os.path.exists(LIST):
@@ -107,10 +124,11 @@ def read_list():
 
 
 def write_list(found, tried):
-    """Writes the list anew: what was found of the edits in these folders, and of all others what it had, where the edit is
+    """Writes the list anew: what was found of the edits in these files, and of all others what it had, where the edit is
     still there."""
-    lines = {path: key for path, key in read_list().items() if os.path.dirname(path) not in tried} | found
-    lines = {path: key for path, key in lines.items() if os.path.exists(os.path.join(ROOT, path))}
+    lines = {path: key for path, key in read_list().items() if file_of(path) not in tried} | found
+    there = {path for file in map(file_of, lines) for path in edits_of(file)}
+    lines = {path: key for path, key in lines.items() if path in there}
     with tempfile.NamedTemporaryFile("w", dir=os.path.dirname(LIST), delete=False, encoding="utf-8") as file:
         file.write(ABOUT + "".join(f"{key} {path}\n" for path, key in sorted(lines.items())))
     os.chmod(file.name, 0o644)
