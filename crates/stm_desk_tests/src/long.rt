@@ -110,7 +110,7 @@ fn evaluates_again(desk: &mut Desk, worker: &mut Worker) -> bool {
 }
 
 /// Whether the job had its turn at the desk.
-pub(crate) fn is_run(desk: &mut Desk, job: Job) -> bool {
+pub(crate) fn is_run(desk: &mut Desk, job: &Job) -> bool {
     if !desk
         .store()
         .catalogue()
@@ -118,27 +118,34 @@ pub(crate) fn is_run(desk: &mut Desk, job: Job) -> bool {
     {
         return false;
     }
-    desk.run_now(job).is_ok()
+    desk.run_now(*job).is_ok()
 }
 
 /// Whether the worker evaluated the job to its end.
-fn is_tried(worker: &mut Worker, job: Job) -> bool {
+fn is_tried(worker: &mut Worker, job: &Job) -> bool {
     worker
         .catalogue()
         .is_callable(job.tx, job.arguments.as_slice())
-        && worker.try_job(job).is_ok()
+        && worker.try_job(*job).is_ok()
+}
+
+/// Whether the job has its turn at the desk, and none a second time.
+fn runs_once(desk: &mut Desk, job: &Job) -> bool {
+    is_run(desk, job) && !is_run(desk, job)
 }
 
 /// What is stale runs here.
 fn runs_what_is_stale(desk: &mut Desk, worker: &mut Worker) -> bool {
-    let (Some(first), Some(second)) = (begun(desk, PUT, 40), begun(desk, GET, 41)) else {
+    let Some(first) = begun(desk, PUT, 40) else {
         return false;
     };
-    is_tried(worker, second)
-        && is_run(desk, first)
-        && desk.bring(worker) == Err(Refused::Stale)
-        && is_run(desk, second)
-        && !is_run(desk, second)
+    let Some(second) = begun(desk, GET, 41) else {
+        return false;
+    };
+    is_tried(worker, &second)
+        && is_run(desk, &first)
+        && matches!(desk.bring(worker), Err(Refused::Stale))
+        && runs_once(desk, &second)
         && desk.store().value("n") == Some((0, 2))
 }
 

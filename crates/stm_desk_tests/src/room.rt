@@ -49,7 +49,7 @@ fn tells_three(desk: &mut Desk) -> bool {
 /// A fourth call runs in the next chapter.
 fn runs_fourth(desk: &mut Desk) -> bool {
     match begun(desk, GET, 43) {
-        Some(job) => is_run(desk, job) && is_told(desk, 43, next_entry(3, 7, 1, 3)),
+        Some(job) => is_run(desk, &job) && is_told(desk, 43, next_entry(3, 7, 1, 3)),
         None => false,
     }
 }
@@ -83,7 +83,7 @@ pub(crate) fn is_left_alone(desk: &mut Desk) -> bool {
     let Some(job) = begun(desk, PUT, 40) else {
         return false;
     };
-    asks(desk, PUT, 41, Err(Refused::NoRoom)) && is_run(desk, job)
+    asks(desk, PUT, 41, Err(Refused::NoRoom)) && is_run(desk, &job)
 }
 
 /// Where the host has a chapter and the present one is used up, what asks waits for the host.
