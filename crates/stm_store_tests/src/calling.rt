@@ -1,9 +1,10 @@
 //! Turns and calls, and what is told of the tasks that had them.
 
 use crate::looks::Look;
-use crate::rows::{At, How, Step, expect};
+use crate::rows::{At, How, Row, Step, first_wrong_row};
 use crate::texts::{FAULTS, TWO, WAITS};
 use book::Standing;
+use std::alloc::Global;
 use stm_store::Refused;
 use txn::{AlwaysId, Fault, Outcome, TxId};
 
@@ -33,11 +34,6 @@ const CALLS_FIRST: &[Step] = &[
     Step::Shows(Look::Good),
 ];
 
-#[test]
-fn a_call_has_its_turn_first(rt: HostRuntime) {
-    expect(&rt, rt.alloc(), TWO, 1, CALLS_FIRST);
-}
-
 /// A parked task is given up, once: what changes then wakes nobody.
 const GIVES_UP_WHO_WAITS: &[Step] = &[
     Step::Turns(Ok((At(0, 0, 0, 0), How::Parks))),
@@ -53,11 +49,6 @@ const GIVES_UP_WHO_WAITS: &[Step] = &[
     Step::Turns(Err(Refused::NotReady)),
     Step::Shows(Look::Good),
 ];
-
-#[test]
-fn a_parked_task_is_given_up_once(rt: HostRuntime) {
-    expect(&rt, rt.alloc(), WAITS, 1, GIVES_UP_WHO_WAITS);
-}
 
 /// A call that parks is woken by another, and its turn tells its entry. A try leaves nothing behind.
 const WAITS_AND_WAKES: &[Step] = &[
@@ -75,11 +66,6 @@ const WAITS_AND_WAKES: &[Step] = &[
     Step::Shows(Look::Good),
 ];
 
-#[test]
-fn a_call_that_waits_is_woken(rt: HostRuntime) {
-    expect(&rt, rt.alloc(), WAITS, 3, WAITS_AND_WAKES);
-}
-
 /// Where there is no room a try of what retries still says so.
 const RETRIES_WITHOUT_ROOM: &[Step] = &[
     Step::TriesToCall(TxId(0), Err(Refused::Retries)),
@@ -87,11 +73,6 @@ const RETRIES_WITHOUT_ROOM: &[Step] = &[
     Step::Calls(TxId(0), Err(Refused::NoRoom)),
     Step::Shows(Look::Standing(0, Some(Standing::Ready))),
 ];
-
-#[test]
-fn a_try_that_retries_needs_no_room(rt: HostRuntime) {
-    expect(&rt, rt.alloc(), WAITS, 0, RETRIES_WITHOUT_ROOM);
-}
 
 /// Each way to throw is told as what it is.
 const THROWS: &[Step] = &[
@@ -114,11 +95,6 @@ const THROWS: &[Step] = &[
     Step::Shows(Look::Good),
 ];
 
-#[test]
-fn what_is_thrown_is_told(rt: HostRuntime) {
-    expect(&rt, rt.alloc(), FAULTS, 4, THROWS);
-}
-
 /// As many turns as were asked for, or until none is ready.
 const GIVES: &[Step] = &[
     Step::Gives(0, 0),
@@ -128,11 +104,6 @@ const GIVES: &[Step] = &[
     Step::Gives(9, 0),
     Step::Shows(Look::Outcome(2, Some(Outcome::Returned(8)))),
 ];
-
-#[test]
-fn turns_are_given_until_none_is_ready(rt: HostRuntime) {
-    expect(&rt, rt.alloc(), TWO, 1, GIVES);
-}
 
 /// A job has its turn where its task runs, in the chapter in which it was taken.
 const SERVES_JOBS: &[Step] = &[
@@ -154,11 +125,6 @@ const SERVES_JOBS: &[Step] = &[
     Step::Shows(Look::Good),
 ];
 
-#[test]
-fn a_job_has_its_turn(rt: HostRuntime) {
-    expect(&rt, rt.alloc(), TWO, 1, SERVES_JOBS);
-}
-
 /// What retries is parked.
 const SERVES_ONE_THAT_RETRIES: &[Step] = &[
     Step::Takes(Ok(At(0, 0, 0, 0))),
@@ -167,7 +133,32 @@ const SERVES_ONE_THAT_RETRIES: &[Step] = &[
     Step::Serves(At(0, 0, 0, 0), Err(Refused::NotRunning)),
 ];
 
-#[test]
-fn a_job_that_retries_waits(rt: HostRuntime) {
-    expect(&rt, rt.alloc(), WAITS, 1, SERVES_ONE_THAT_RETRIES);
+const ROWS: &[Row] = &[
+    ("a call has its turn first", TWO, 1, CALLS_FIRST),
+    (
+        "a parked task is given up once",
+        WAITS,
+        1,
+        GIVES_UP_WHO_WAITS,
+    ),
+    ("a call that waits is woken", WAITS, 3, WAITS_AND_WAKES),
+    (
+        "a try that retries needs no room",
+        WAITS,
+        0,
+        RETRIES_WITHOUT_ROOM,
+    ),
+    ("what is thrown is told", FAULTS, 4, THROWS),
+    ("turns are given until none is ready", TWO, 1, GIVES),
+    ("a job has its turn", TWO, 1, SERVES_JOBS),
+    (
+        "a job that retries waits",
+        WAITS,
+        1,
+        SERVES_ONE_THAT_RETRIES,
+    ),
+];
+
+pub(crate) fn first_wrong(alloc: Global, workers: usize) -> Option<(usize, usize)> {
+    first_wrong_row(alloc, workers, ROWS)
 }

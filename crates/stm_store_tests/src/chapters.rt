@@ -1,9 +1,10 @@
 //! Chapters of a store's life, as its calls, its files and its reports tell them.
 
 use crate::looks::Look;
-use crate::rows::{At, How, Step, expect};
+use crate::rows::{At, How, Row, Step, first_wrong_row};
 use crate::texts::{HOLDS, MIXED, NOTHING_READY, WAITS};
 use book::Standing;
+use std::alloc::Global;
 use stm_store::Refused;
 use txn::{Outcome, TxId};
 
@@ -64,11 +65,6 @@ const COMES_OVER: &[Step] = &[
     Step::Shows(Look::Good),
 ];
 
-#[test]
-fn a_parked_task_comes_over(rt: HostRuntime) {
-    expect(&rt, rt.alloc(), HOLDS, 0, COMES_OVER);
-}
-
 /// All of the room is of tasks that wait: so it is in the next chapter too.
 const FULL_OF_PARKED: &[Step] = &[
     Step::Calls(TxId(0), Ok((At(1, 0, 1, 0), How::Parks))),
@@ -90,11 +86,6 @@ const FULL_OF_PARKED: &[Step] = &[
     Step::Turns(Ok((At(1, 2, 0, 0), How::Returns(2, 1)))),
     Step::Shows(Look::Good),
 ];
-
-#[test]
-fn a_chapter_may_be_full_of_what_waits(rt: HostRuntime) {
-    expect(&rt, rt.alloc(), WAITS, 1, FULL_OF_PARKED);
-}
 
 /// Tasks that wait for different variables stand between others that end, and are moved down: each wakes by what
 /// it waits for, and has its ticket.
@@ -123,11 +114,6 @@ const MOVES_DOWN: &[Step] = &[
     Step::Shows(Look::Good),
 ];
 
-#[test]
-fn those_that_wait_are_moved_down(rt: HostRuntime) {
-    expect(&rt, rt.alloc(), MIXED, 1, MOVES_DOWN);
-}
-
 /// A program of no task: chapters pass, and nothing is ever ready.
 const NOTHING_HAPPENS: &[Step] = &[
     Step::Turns(Err(Refused::NotReady)),
@@ -143,7 +129,23 @@ const NOTHING_HAPPENS: &[Step] = &[
     Step::Shows(Look::Good),
 ];
 
-#[test]
-fn chapters_of_nothing_pass(rt: HostRuntime) {
-    expect(&rt, rt.alloc(), NOTHING_READY, 0, NOTHING_HAPPENS);
+const ROWS: &[Row] = &[
+    ("a parked task comes over", HOLDS, 0, COMES_OVER),
+    (
+        "a chapter may be full of what waits",
+        WAITS,
+        1,
+        FULL_OF_PARKED,
+    ),
+    ("those that wait are moved down", MIXED, 1, MOVES_DOWN),
+    (
+        "chapters of nothing pass",
+        NOTHING_READY,
+        0,
+        NOTHING_HAPPENS,
+    ),
+];
+
+pub(crate) fn first_wrong(alloc: Global, workers: usize) -> Option<(usize, usize)> {
+    first_wrong_row(alloc, workers, ROWS)
 }

@@ -1,9 +1,8 @@
 //! A store that outlives its room many times.
 
 use crate::lends::call;
-use crate::rows::{Host, Opening, opened};
+use crate::rows::{Host, opened};
 use crate::texts::MANY;
-use std::process::Abort;
 use stm_store::{End, Lender, Refused, Store, Ticket, Way};
 use txn::TxId;
 
@@ -24,50 +23,53 @@ fn fills(store: &mut Store, lender: &mut Lender, count: usize) -> bool {
     )
 }
 
-/// The next task has this ticket, and is entered by it.
-fn opens(rt: &impl Abort, store: &mut Store, lender: &mut Lender, ticket: Ticket) {
-    assert!(rt; store.catalogue().is_callable(TxId(1), &[]));
-    assert!(rt; store.submit(TxId(1), &[]) == Ok(ticket));
-    let Ok(job) = store.claim(ticket) else {
-        panic!(rt; "not ready")
-    };
-    assert!(rt; matches!(store.turn(lender, job), Ok(End::Entered(_))));
-}
-
-/// So many chapters are filled, one after another, beside 40 tasks that wait.
-fn fills_chapters(rt: &impl Abort, store: &mut Store, lender: &mut Lender, chapters: u64) {
-    for chapter in 0..chapters {
-        assert!(rt; store.chapter() == chapter);
-        assert!(rt; fills(store, lender, TASK_ROOM));
-        store.begin_chapter();
-        assert!(rt; store.spare() == TASK_ROOM);
-        assert!(rt; store.tasks() == 40);
+/// Whether the next task has this ticket, and is entered by it.
+fn opens(store: &mut Store, lender: &mut Lender, ticket: Ticket) -> bool {
+    if !store.catalogue().is_callable(TxId(1), &[]) || store.submit(TxId(1), &[]) != Ok(ticket) {
+        return false;
+    }
+    match store.claim(ticket) {
+        Ok(job) => matches!(store.turn(lender, job), Ok(End::Entered(_))),
+        Err(_) => false,
     }
 }
 
+/// Whether the chapter of this number is filled beside 40 tasks that wait, and the next one begins.
+fn fills_chapter(store: &mut Store, lender: &mut Lender, chapter: u64) -> bool {
+    if store.chapter() != chapter || !fills(store, lender, TASK_ROOM) {
+        return false;
+    }
+    store.begin_chapter();
+    store.spare() == TASK_ROOM && store.tasks() == 40
+}
+
+/// Whether so many chapters are filled so, one after another.
+fn fills_chapters(store: &mut Store, lender: &mut Lender, chapters: u64) -> bool {
+    for chapter in 0..chapters {
+        if !fills_chapter(store, lender, chapter) {
+            return false;
+        }
+    }
+    true
+}
+
 /// The tickets before the one that opens are those of the 40 tasks and of the 100,000 calls.
-fn outlives(rt: &impl Abort, store: &mut Store, lender: &mut Lender) {
-    assert!(rt; store.turns(lender, 40) == 40);
-    fills_chapters(rt, store, lender, 100);
-    assert!(rt; store.entered() == 100000);
-    assert!(rt; store.value("n") == Some((100000, 0)));
-    opens(rt, store, lender, Ticket(100040));
-    assert!(rt; store.turns(lender, 100) == 40);
-    assert!(rt; store.value("out") == Some((4000000, 41)));
+fn outlives(host: &mut Host) -> bool {
+    let Host { store, lender } = host;
+    store.turns(lender, 40) == 40
+        && fills_chapters(store, lender, 100)
+        && store.entered() == 100000
+        && store.value("n") == Some((100000, 0))
+        && opens(store, lender, Ticket(100040))
+        && store.turns(lender, 100) == 40
+        && store.value("out") == Some((4000000, 41))
 }
 
 /// 100,000 calls in chapters of 1,000, beside 40 tasks that wait all the time, and are then woken by their tickets.
 #[test]
 fn what_waits_stays_through_many_chapters(rt: HostRuntime) {
-    let opening = Opening {
-        file: MANY,
-        workers: 0,
-        every: 0,
-        spare: TASK_ROOM,
-    };
-    let Host {
-        mut store,
-        mut lender,
-    } = opened(&rt, rt.alloc(), opening);
-    outlives(&rt, &mut store, &mut lender);
+    match opened(rt.alloc(), MANY, 0, TASK_ROOM) {
+        Some(mut host) => assert!(rt; outlives(&mut host)),
+        None => panic!(rt; "no store"),
+    }
 }

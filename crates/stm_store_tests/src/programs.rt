@@ -3,7 +3,6 @@
 use crate::rows::{At, How, end, job};
 use crate::texts::{ALIKE, GUARDED, OTHER, TWO, WAITS, WIDER};
 use std::alloc::Global;
-use std::process::Abort;
 use stm_store::{End, Program, Refused, Store, Worker};
 
 /// What is done with a store and a worker, with what it has to answer.
@@ -29,19 +28,15 @@ const FIRST_ENTERED: Act = Act::Brings(Ok(How::Returns(1, 6)));
 
 const SECOND_ENTERED: Act = Act::Brings(Ok(How::Returns(2, 7)));
 
-/// A store of the file with room for two tasks more, and a worker of it.
-fn opened(rt: &impl Abort, alloc: Global, file: &str) -> (Store, Worker) {
+/// A store of the file for a worker, with room for two tasks more.
+fn opened(alloc: Global, file: &str) -> Option<Store> {
     let Ok(program) = Program::read(alloc, file.as_bytes()) else {
-        panic!(rt; "no program")
+        return None;
     };
-    assert!(rt; program.catalogue().tasks() <= 2);
-    let Ok(mut store) = Store::open_with_room(alloc, program, 1, 0, 2) else {
-        panic!(rt; "no store")
-    };
-    match store.worker() {
-        Some(worker) => (store, worker),
-        None => panic!(rt; "no worker"),
+    if program.catalogue().tasks() > 2 {
+        return None;
     }
+    Store::open_with_room(alloc, program, 1, 0, 2).ok()
 }
 
 /// Whether the worker tries this job to its end.
@@ -75,23 +70,50 @@ fn goes(store: &mut Store, worker: &mut Worker, act: &Act) -> bool {
     }
 }
 
-fn follows(rt: &(impl Abort + Eprint), store: &mut Store, worker: &mut Worker, acts: &[Act]) {
+/// The first of these that is not answered so, `None` where all are.
+fn first_wrong(store: &mut Store, worker: &mut Worker, acts: &[Act]) -> Option<usize> {
     for place in 0..acts.len() {
-        assert!(rt; goes(store, worker, &acts[place]), "act {place}");
+        if !goes(store, worker, &acts[place]) {
+            return Some(place);
+        }
+    }
+    None
+}
+
+/// So it is with a worker of the other store.
+fn first_wrong_of(store: &mut Store, other: &mut Store, acts: &[Act]) -> Option<usize> {
+    match other.worker() {
+        Some(mut worker) => first_wrong(store, &mut worker, acts),
+        None => Some(0),
     }
 }
 
-/// So it goes with a store of the file and a worker of it.
-fn expect(rt: &(impl Abort + Eprint), alloc: Global, file: &str, acts: &[Act]) {
-    let (mut store, mut worker) = opened(rt, alloc, file);
-    follows(rt, &mut store, &mut worker, acts);
+/// So it is with its own worker.
+fn first_wrong_of_own(store: &mut Store, acts: &[Act]) -> Option<usize> {
+    match store.worker() {
+        Some(mut worker) => first_wrong(store, &mut worker, acts),
+        None => Some(0),
+    }
 }
 
-/// So it goes with a store of two increments and a worker of the file.
-fn expect_of(rt: &(impl Abort + Eprint), alloc: Global, file: &str, acts: &[Act]) {
-    let (mut store, _own) = opened(rt, alloc, TWO);
-    let (_other, mut worker) = opened(rt, alloc, file);
-    follows(rt, &mut store, &mut worker, acts);
+/// Whose worker is brought: the store's own, or that of another store, of this file.
+enum Whose {
+    Own,
+    Of(&'static str),
+}
+
+/// So it is with a store of the file, and that worker.
+fn first_wrong_in(alloc: Global, file: &str, whose: &Whose, acts: &[Act]) -> Option<usize> {
+    let Some(mut store) = opened(alloc, file) else {
+        return Some(0);
+    };
+    let Whose::Of(other) = whose else {
+        return first_wrong_of_own(&mut store, acts);
+    };
+    match opened(alloc, other) {
+        Some(mut other) => first_wrong_of(&mut store, &mut other, acts),
+        None => Some(0),
+    }
 }
 
 const BROUGHT_ONCE: &[Act] = &[
@@ -107,11 +129,6 @@ const BROUGHT_ONCE: &[Act] = &[
     Act::Brings(Err(Refused::NotRunning)),
 ];
 
-#[test]
-fn an_attempt_is_brought_once(rt: HostRuntime) {
-    expect(&rt, rt.alloc(), TWO, BROUGHT_ONCE);
-}
-
 const CHANGED_MEANWHILE: &[Act] = &[
     Act::Takes(FIRST),
     Act::Takes(SECOND),
@@ -122,11 +139,6 @@ const CHANGED_MEANWHILE: &[Act] = &[
     SECOND_ENTERED,
 ];
 
-#[test]
-fn what_was_changed_meanwhile_is_stale(rt: HostRuntime) {
-    expect(&rt, rt.alloc(), TWO, CHANGED_MEANWHILE);
-}
-
 const RETRIES: &[Act] = &[
     Act::Takes(FIRST),
     Act::Tries(FIRST),
@@ -134,11 +146,6 @@ const RETRIES: &[Act] = &[
     Act::Tries(FIRST),
     Act::Brings(Err(Refused::NotRunning)),
 ];
-
-#[test]
-fn an_attempt_that_retries_is_parked(rt: HostRuntime) {
-    expect(&rt, rt.alloc(), WAITS, RETRIES);
-}
 
 /// Another ticket, another transaction, another task and another chapter are each refused.
 const OTHER_JOBS: &[Act] = &[
@@ -155,11 +162,6 @@ const OTHER_JOBS: &[Act] = &[
     Act::Brings(Ok(How::Parks)),
 ];
 
-#[test]
-fn a_job_is_of_its_task_and_its_ticket(rt: HostRuntime) {
-    expect(&rt, rt.alloc(), WAITS, OTHER_JOBS);
-}
-
 /// The job of a task that has the same number in the next chapter is refused there.
 const EARLIER_CHAPTER: &[Act] = &[
     Act::Takes(FIRST),
@@ -170,11 +172,6 @@ const EARLIER_CHAPTER: &[Act] = &[
     Act::Tries(At(0, 1, 0, 0)),
     FIRST_ENTERED,
 ];
-
-#[test]
-fn a_job_of_an_earlier_chapter_is_refused(rt: HostRuntime) {
-    expect(&rt, rt.alloc(), TWO, EARLIER_CHAPTER);
-}
 
 const OF_THE_SAME: &[Act] = &[Act::Takes(FIRST), Act::Tries(FIRST), FIRST_ENTERED];
 
@@ -196,13 +193,80 @@ const OF_ANOTHER_PROGRAM: &[Act] = &[
     Act::Brings(Err(Refused::OtherProgram)),
 ];
 
+/// What it shows, the file of the store, whose worker is brought, and what is done.
+type Row = (&'static str, &'static str, Whose, &'static [Act]);
+
+const ROWS: &[Row] = &[
+    ("an attempt is brought once", TWO, Whose::Own, BROUGHT_ONCE),
+    (
+        "what was changed meanwhile is stale",
+        TWO,
+        Whose::Own,
+        CHANGED_MEANWHILE,
+    ),
+    (
+        "an attempt that retries is parked",
+        WAITS,
+        Whose::Own,
+        RETRIES,
+    ),
+    (
+        "a job is of its task and its ticket",
+        WAITS,
+        Whose::Own,
+        OTHER_JOBS,
+    ),
+    (
+        "a job of an earlier chapter is refused",
+        TWO,
+        Whose::Own,
+        EARLIER_CHAPTER,
+    ),
+    (
+        "a worker of another program is refused",
+        TWO,
+        Whose::Of(TWO),
+        OF_THE_SAME,
+    ),
+    (
+        "a worker of another program is refused",
+        TWO,
+        Whose::Of(ALIKE),
+        OF_ONE_THAT_DIFFERS,
+    ),
+    (
+        "a worker of another program is refused",
+        TWO,
+        Whose::Of(ALIKE),
+        OF_ANOTHER_TRANSACTION,
+    ),
+    (
+        "a worker of another program is refused",
+        TWO,
+        Whose::Of(OTHER),
+        OF_ANOTHER_PROGRAM,
+    ),
+    (
+        "a worker of another program is refused",
+        TWO,
+        Whose::Of(GUARDED),
+        OF_ANOTHER_PROGRAM,
+    ),
+    (
+        "a worker of another program is refused",
+        TWO,
+        Whose::Of(WIDER),
+        OF_ANOTHER_PROGRAM,
+    ),
+];
+
 #[test]
-fn a_worker_of_another_program_is_refused(rt: HostRuntime) {
-    let alloc = rt.alloc();
-    expect_of(&rt, alloc, TWO, OF_THE_SAME);
-    expect_of(&rt, alloc, ALIKE, OF_ONE_THAT_DIFFERS);
-    expect_of(&rt, alloc, ALIKE, OF_ANOTHER_TRANSACTION);
-    expect_of(&rt, alloc, OTHER, OF_ANOTHER_PROGRAM);
-    expect_of(&rt, alloc, GUARDED, OF_ANOTHER_PROGRAM);
-    expect_of(&rt, alloc, WIDER, OF_ANOTHER_PROGRAM);
+fn workers_are_brought_to_stores(rt: HostRuntime) {
+    for (shows, file, whose, acts) in ROWS {
+        assert_eq!(rt;
+            first_wrong_in(rt.alloc(), file, whose, acts),
+            None,
+            "{shows}"
+        );
+    }
 }

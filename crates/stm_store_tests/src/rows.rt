@@ -2,6 +2,7 @@
 
 use crate::lends::{call, has, turn};
 use crate::looks::{Look, shows};
+use crate::{calling, chapters, tables, tasks, waits};
 use std::alloc::Global;
 use std::process::Abort;
 use stm_store::{End, Entered, Job, Lender, Program, Refused, Store, Ticket, Way};
@@ -124,61 +125,93 @@ fn goes(alloc: Global, host: &mut Host, step: &Step) -> bool {
     }
 }
 
-/// How a store is opened.
-#[derive(Clone, Copy)]
-pub(crate) struct Opening {
-    pub(crate) file: &'static str,
-    pub(crate) workers: usize,
-    pub(crate) every: u32,
-    pub(crate) spare: usize,
-}
-
-/// A store of the file, and a lender.
-pub(crate) fn opened(rt: &(impl Abort + Eprint), alloc: Global, opening: Opening) -> Host {
-    let Ok(program) = Program::read(alloc, opening.file.as_bytes()) else {
-        panic!(rt; "no program")
+/// A store of the file, for so many workers and with room for so many tasks more, and a lender. `None` where memory is
+/// refused, or they are more than the tests ask for.
+pub(crate) fn opened(alloc: Global, file: &str, workers: usize, spare: usize) -> Option<Host> {
+    let Ok(program) = Program::read(alloc, file.as_bytes()) else {
+        return None;
     };
-    assert!(rt;
-        opening.workers <= 32 && opening.spare <= 1000 && program.catalogue().tasks() <= 1000
-    );
-    let Ok(store) = Store::open_with_room(
-        alloc,
-        program,
-        opening.workers,
-        opening.every,
-        opening.spare,
-    ) else {
-        panic!(rt; "no store")
-    };
-    let Some(lender) = store.lender() else {
-        panic!(rt; "nobody lends")
-    };
-    Host { store, lender }
-}
-
-/// The host goes by these steps.
-pub(crate) fn follows(rt: &(impl Abort + Eprint), alloc: Global, host: &mut Host, steps: &[Step]) {
-    for place in 0..steps.len() {
-        assert!(rt; goes(alloc, host, &steps[place]), "step {place}");
+    if workers > 32 || spare > 1000 || program.catalogue().tasks() > 1000 {
+        return None;
+    }
+    match Store::open_with_room(alloc, program, workers, 0, spare) {
+        Ok(store) => lent(store),
+        Err(_) => None,
     }
 }
 
-/// The steps are answered so by a store of the file with room for so many tasks more, whether a worker reads its
-/// cells or nobody does.
-pub(crate) fn expect(
-    rt: &(impl Abort + Eprint),
+/// The store with a lender of it.
+fn lent(store: Store) -> Option<Host> {
+    match store.lender() {
+        Some(lender) => Some(Host { store, lender }),
+        None => None,
+    }
+}
+
+/// The first of these steps that the host does not go by, `None` where it goes by all.
+fn first_wrong(alloc: Global, host: &mut Host, steps: &[Step]) -> Option<usize> {
+    for place in 0..steps.len() {
+        if !goes(alloc, host, &steps[place]) {
+            return Some(place);
+        }
+    }
+    None
+}
+
+/// The first of these steps that is not answered so by a store of the file with room for so many tasks more, for so
+/// many workers.
+fn first_wrong_of(
     alloc: Global,
-    file: &'static str,
+    file: &str,
+    workers: usize,
     spare: usize,
     steps: &[Step],
-) {
-    for workers in 0..2 {
-        let opening = Opening {
-            file,
-            workers,
-            every: 0,
-            spare,
-        };
-        follows(rt, alloc, &mut opened(rt, alloc, opening), steps);
+) -> Option<usize> {
+    match opened(alloc, file, workers, spare) {
+        Some(mut host) => first_wrong(alloc, &mut host, steps),
+        None => Some(0),
     }
+}
+
+/// What it shows, the text of a file, how many tasks more there is room for, and the steps.
+pub(crate) type Row = (&'static str, &'static str, usize, &'static [Step]);
+
+/// The first row that is not answered so, for so many workers, and its first step.
+pub(crate) fn first_wrong_row(
+    alloc: Global,
+    workers: usize,
+    rows: &[Row],
+) -> Option<(usize, usize)> {
+    for place in 0..rows.len() {
+        let (_, file, spare, steps) = rows[place];
+        if let Some(step) = first_wrong_of(alloc, file, workers, spare, steps) {
+            return Some((place, step));
+        }
+    }
+    None
+}
+
+/// The rows of each file are answered so, for so many workers. Each file's are a table of their own: what one takes to
+/// prove grows with the square of its length.
+fn expect(rt: &(impl Abort + Eprint), alloc: Global, workers: usize) {
+    let found = [
+        ("calling", calling::first_wrong(alloc, workers)),
+        ("chapters", chapters::first_wrong(alloc, workers)),
+        ("tables", tables::first_wrong(alloc, workers)),
+        ("tasks", tasks::first_wrong(alloc, workers)),
+        ("waits", waits::first_wrong(alloc, workers)),
+    ];
+    for (of, wrong) in found {
+        assert_eq!(rt; wrong, None, "{of}");
+    }
+}
+
+#[test]
+fn stores_whose_cells_nobody_reads(rt: HostRuntime) {
+    expect(&rt, rt.alloc(), 0);
+}
+
+#[test]
+fn stores_whose_cells_a_worker_reads(rt: HostRuntime) {
+    expect(&rt, rt.alloc(), 1);
 }

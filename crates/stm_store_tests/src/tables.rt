@@ -1,8 +1,9 @@
 //! Cells of tables, as a store's calls, its file and its report tell them.
 
 use crate::looks::Look;
-use crate::rows::{At, How, Step, expect};
+use crate::rows::{At, How, Row, Step, first_wrong_row};
 use crate::texts::TABLES;
+use std::alloc::Global;
 use txn::TxId;
 
 /// Each cell is known by its name and by its numbers, and nothing else is.
@@ -32,11 +33,6 @@ const NAMED: &[Step] = &[
     Step::Shows(Look::Cell(1, 2, None)),
     Step::Shows(Look::Cell(2, 0, None)),
 ];
-
-#[test]
-fn a_cell_is_known_by_name_and_by_number(rt: HostRuntime) {
-    expect(&rt, rt.alloc(), TABLES, 0, NAMED);
-}
 
 /// What was written is told with its entry's number, and the next chapter begins with it.
 const WRITTEN: &[Step] = &[
@@ -71,7 +67,11 @@ const WRITTEN: &[Step] = &[
     Step::Shows(Look::Good),
 ];
 
-#[test]
-fn cells_are_told_as_variables_are(rt: HostRuntime) {
-    expect(&rt, rt.alloc(), TABLES, 1, WRITTEN);
+const ROWS: &[Row] = &[
+    ("a cell is known by name and by number", TABLES, 0, NAMED),
+    ("cells are told as variables are", TABLES, 1, WRITTEN),
+];
+
+pub(crate) fn first_wrong(alloc: Global, workers: usize) -> Option<(usize, usize)> {
+    first_wrong_row(alloc, workers, ROWS)
 }

@@ -1,9 +1,10 @@
 //! Tasks that are submitted, taken and given up.
 
 use crate::looks::Look;
-use crate::rows::{At, How, Step, expect};
+use crate::rows::{At, How, Row, Step, first_wrong_row};
 use crate::texts::TWO;
 use book::Standing;
+use std::alloc::Global;
 use stm_store::Refused;
 use txn::TxId;
 
@@ -40,7 +41,8 @@ const GIVES_UP: &[Step] = &[
     Step::Takes(Ok(At(3, 1, 0, 0))),
 ];
 
-#[test]
-fn what_is_given_up_is_over(rt: HostRuntime) {
-    expect(&rt, rt.alloc(), TWO, 1, GIVES_UP);
+const ROWS: &[Row] = &[("what is given up is over", TWO, 1, GIVES_UP)];
+
+pub(crate) fn first_wrong(alloc: Global, workers: usize) -> Option<(usize, usize)> {
+    first_wrong_row(alloc, workers, ROWS)
 }

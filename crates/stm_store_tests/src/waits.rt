@@ -2,8 +2,9 @@
 //! the low bits of their numbers.
 
 use crate::looks::Look;
-use crate::rows::{At, How, Step, expect};
+use crate::rows::{At, How, Row, Step, first_wrong_row};
 use book::Standing;
+use std::alloc::Global;
 use txn::TxId;
 
 /// A task waits for the cell 300, whose number has the same low bits as 44 and 556. The transactions: the one that
@@ -30,11 +31,6 @@ const WOKEN_BY_ITS_OWN: &[Step] = &[
     Step::Shows(Look::Good),
 ];
 
-#[test]
-fn a_task_is_woken_by_its_own_cell(rt: HostRuntime) {
-    expect(&rt, rt.alloc(), SHARED, 4, WOKEN_BY_ITS_OWN);
-}
-
 /// The task waits on in the next chapter.
 const ACROSS_CHAPTERS: &[Step] = &[
     Step::Turns(Ok((At(0, 0, 0, 0), How::Parks))),
@@ -47,11 +43,6 @@ const ACROSS_CHAPTERS: &[Step] = &[
     Step::Turns(Ok((At(0, 1, 0, 0), How::Returns(3, 7)))),
     Step::Shows(Look::Good),
 ];
-
-#[test]
-fn a_task_waits_for_a_cell_across_chapters(rt: HostRuntime) {
-    expect(&rt, rt.alloc(), SHARED, 2, ACROSS_CHAPTERS);
-}
 
 /// One task waits for 44, and one for 300 and 556: all three cells have one set. The transactions: these two, and
 /// those that write 300 and 44.
@@ -73,21 +64,19 @@ const WOKEN_APART: &[Step] = &[
     Step::Shows(Look::Good),
 ];
 
-#[test]
-fn tasks_of_one_set_are_woken_apart(rt: HostRuntime) {
-    expect(&rt, rt.alloc(), TWICE, 2, WOKEN_APART);
-}
-
 /// The last cell of 255, 256 and 257 is waited for. The transactions: the one that waits, and those that write the
 /// first cell and the last.
-const LAST: &[&str] = &[
+const LAST_OF_255: &str =
     "(stm 3)(table t 255 0)(tx wait () (if (eq (at t 254) 0) (retry) (skip)) (at t 254))(tx first () (put t 0 1) \
-        0)(tx last () (put t 254 7) 0)(run wait 1)",
+        0)(tx last () (put t 254 7) 0)(run wait 1)";
+
+const LAST_OF_256: &str =
     "(stm 3)(table t 256 0)(tx wait () (if (eq (at t 255) 0) (retry) (skip)) (at t 255))(tx first () (put t 0 1) \
-        0)(tx last () (put t 255 7) 0)(run wait 1)",
+        0)(tx last () (put t 255 7) 0)(run wait 1)";
+
+const LAST_OF_257: &str =
     "(stm 3)(table t 257 0)(tx wait () (if (eq (at t 256) 0) (retry) (skip)) (at t 256))(tx first () (put t 0 1) \
-        0)(tx last () (put t 256 7) 0)(run wait 1)",
-];
+        0)(tx last () (put t 256 7) 0)(run wait 1)";
 
 const WOKEN_BY_THE_LAST: &[Step] = &[
     Step::Turns(Ok((At(0, 0, 0, 0), How::Parks))),
@@ -112,10 +101,41 @@ const WOKEN_BY_ANY: &[Step] = &[
     Step::Shows(Look::Good),
 ];
 
-#[test]
-fn a_task_is_woken_by_the_last_cell(rt: HostRuntime) {
-    for text in LAST {
-        expect(&rt, rt.alloc(), text, 2, WOKEN_BY_THE_LAST);
-    }
-    expect(&rt, rt.alloc(), SUM, 1, WOKEN_BY_ANY);
+const ROWS: &[Row] = &[
+    (
+        "a task is woken by its own cell",
+        SHARED,
+        4,
+        WOKEN_BY_ITS_OWN,
+    ),
+    (
+        "a task waits for a cell across chapters",
+        SHARED,
+        2,
+        ACROSS_CHAPTERS,
+    ),
+    ("tasks of one set are woken apart", TWICE, 2, WOKEN_APART),
+    (
+        "a task is woken by the last cell",
+        LAST_OF_255,
+        2,
+        WOKEN_BY_THE_LAST,
+    ),
+    (
+        "a task is woken by the last cell",
+        LAST_OF_256,
+        2,
+        WOKEN_BY_THE_LAST,
+    ),
+    (
+        "a task is woken by the last cell",
+        LAST_OF_257,
+        2,
+        WOKEN_BY_THE_LAST,
+    ),
+    ("a task is woken by the last cell", SUM, 1, WOKEN_BY_ANY),
+];
+
+pub(crate) fn first_wrong(alloc: Global, workers: usize) -> Option<(usize, usize)> {
+    first_wrong_row(alloc, workers, ROWS)
 }
