@@ -1,5 +1,5 @@
 -- Long calls that are handed out.
-use Rattle.std.proofs.Common.{◌≡◌, ℕ, suc, ◌<◌, List, ◌∷◌, ◌++◌, Option, Some, None, length, refl, ap, arith, length-append}
+use Rattle.std.proofs.Common.{◌≡◌, suc, ◌<◌, List, ◌∷◌, ◌++◌, Option, Some, None, length, refl, ap, arith, length-append}
 use Rattle.stm_store.specs.declared.job.Job.{Job}
 
 -- whoever sits there sat there before

@@ -18,8 +18,12 @@ use txn::weights::{Size, Weights, sizes_of};
 const TRIES: u32 = 8;
 
 /// Which transactions are long, as a run judges it that takes the least time: to evaluate one costs more than to give
-/// the lock back and to come for it again. Out of memory none is: then each is evaluated under the lock.
-pub(crate) fn long_ones(alloc: Global, catalogue: &Catalogue) -> Vec<bool> {
+/// the lock back and to come for it again. With no worker, or out of memory, none is: then each is evaluated under the
+/// lock.
+pub(crate) fn long_ones(alloc: Global, catalogue: &Catalogue, workers: usize) -> Vec<bool> {
+    if workers == 0 {
+        return Vec::new(alloc);
+    }
     match marked(alloc, catalogue) {
         Ok(marks) => marks,
         Err(_) => Vec::new(alloc),

@@ -102,12 +102,7 @@ impl<N: Naming> Service<N> {
         let mut store = store;
         let catalogue = store.catalogue();
         let workers = workers_of(alloc, &mut store);
-        // Without workers each call is evaluated under the lock.
-        let long = if workers.is_empty() {
-            Vec::new(alloc)
-        } else {
-            long_ones(alloc, catalogue)
-        };
+        let long = long_ones(alloc, catalogue, workers.len());
         let (behind, front) = Behind::new(rt, alloc, store, long, opened, are_kept);
         let service = Service {
             catalogue,

@@ -3,7 +3,7 @@ use Rattle.stm_desk.specs.declared.answers.Asked.{Asked}
 use Rattle.stm_desk.specs.Answering.{IsAsked, history_of}
 use Rattle.stm_desk.specs.History.{Begins, History}
 use Rattle.stm_service.specs.Telling.{HasNoEntry}
-use Rattle.stm_service.proofs.Asking.{ended_begun, next_is_new, passed_begun, refused_behind}
+use Rattle.stm_service.proofs.Asking.{ended_begun, next_is_new, passed_begun, refused_behind, waiting_begun}
 use Rattle.stm_service.proofs.Joining.{begins_on}
 use Rattle.stm_service.proofs.behind.Behind.call.Goals as goal
 
@@ -45,3 +45,22 @@ returns-in-Ok-ChapterFull-clause-begun g c =
 
 pub returns-in-Ok-ChapterFull-clause-full : goal.returns-in-Ok-ChapterFull-clause-full
 returns-in-Ok-ChapterFull-clause-full g c dropped is room = absurd (c.pass_on.ensures.room (c.ask.ensures.kept ∙ dropped) is)
+
+-- whoever called waits, for a short call or a long one
+pub wait-requires-in-Ok-Runs-clause-is_new : goal.wait-requires-in-Ok-Runs-clause-is_new
+wait-requires-in-Ok-Runs-clause-is_new g c κs within =
+    let s = c.args.self.now in
+    let begins : Begins c.args.front.now (history_of s.desk) = subst (Begins c.args.front.now) s.shown c.if-not-covers.ensures in
+    next_is_new s.desk c.args.front.now c.in-Ok-Runs.job.ticket begins (subst (λ (x : Asked). IsAsked s.desk c.args.call.now c.args.way 0 (Ok x) c.ask.new.self.desk) c.in-Ok-Runs.field-0-is c.in-Ok-Runs.ensures.asked).3.ticket
+
+pub returns-in-Ok-Waits-clause-begun : goal.returns-in-Ok-Waits-clause-begun
+returns-in-Ok-Waits-clause-begun g c =
+    let s = c.args.self.now in
+    let asked = subst (λ (x : Asked). IsAsked s.desk c.args.call.now c.args.way 0 (Ok x) c.ask.new.self.desk) c.in-Ok-Waits.field-0-is c.in-Ok-Waits.ensures.asked in
+    waiting_begun g.N.Naming.catalogue g.N.Naming.first c.args.front.now c.wait.new.front c.args.call.now c.args.way c.wait.result asked.1 c.wait.ensures
+
+pub returns-in-Ok-Runs-clause-begun : goal.returns-in-Ok-Runs-clause-begun
+returns-in-Ok-Runs-clause-begun g c =
+    let s = c.args.self.now in
+    let asked = subst (λ (x : Asked). IsAsked s.desk c.args.call.now c.args.way 0 (Ok x) c.ask.new.self.desk) c.in-Ok-Runs.field-0-is c.in-Ok-Runs.ensures.asked in
+    waiting_begun g.N.Naming.catalogue g.N.Naming.first c.args.front.now c.wait-in-Ok-Runs.new.front c.args.call.now c.args.way c.wait-in-Ok-Runs.result asked.1 c.wait-in-Ok-Runs.ensures

@@ -31,29 +31,6 @@ invariant_of-self-clause-starts g c kept =
     let s = c.args.self.now in
     starts_as g.N.Naming.catalogue g.N.Naming.first s.began s.desk.work.store c.next_due.new.self.work.store (ap (λ (x : Store). x.book.catalogue) c.next_due.ensures.store) (s.starts kept)
 
-pub invariant_of-self-2-clause-seated : goal.invariant_of-self-2-clause-seated
-invariant_of-self-2-clause-seated g c t seat at =
-    let s = c.args.self.now in
-    let w = s.desk.work.waiters in
-    let v = c.next_due.new.self.work.waiters in
-    let old = s.seated t seat at in
-    (old.0, λ none. ∥∥₁_map (old.1 none) (awaited_on w v t seat.call (carries_equal w v c.next_due.ensures.waiters)))
-
-pub invariant_of-self-2-clause-kept : goal.invariant_of-self-2-clause-kept
-invariant_of-self-2-clause-kept g c dropped =
-    let s = c.args.self.now in
-    kept_on s.desk.work c.next_due.new.self.work c.next_due.ensures.last (s.kept dropped)
-
-pub invariant_of-self-2-clause-none_lies : goal.invariant_of-self-2-clause-none_lies
-invariant_of-self-2-clause-none_lies g c =
-    let s = c.args.self.now in
-    none_lies_on s.desk.work c.next_due.new.self.work c.next_due.ensures.last s.none_lies
-
-pub invariant_of-self-2-clause-starts : goal.invariant_of-self-2-clause-starts
-invariant_of-self-2-clause-starts g c kept =
-    let s = c.args.self.now in
-    starts_as g.N.Naming.catalogue g.N.Naming.first s.began s.desk.work.store c.next_due.new.self.work.store (ap (λ (x : Store). x.book.catalogue) c.next_due.ensures.store) (s.starts kept)
-
 pub returns-clause-fewer : goal.returns-clause-fewer
 returns-clause-fewer g c is =
     let s = c.args.self.now in
