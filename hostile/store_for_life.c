@@ -59,9 +59,9 @@ static uint64_t chapters, woken, rings;
 static int64_t sleepers[SLEEPERS];
 static long first_bytes, first_pages, last_bytes, last_pages;
 static const char *folder;
-static uint8_t file[1 << 20], report[1 << 20];
+static char file[1 << 20], report[1 << 20];
 
-static void keep(const char *kind, const uint8_t *text, size_t length) {
+static void keep(const char *kind, const char *text, size_t length) {
     char path[4096];
     snprintf(path, sizeof path, "%s/%llu.%s", folder, (unsigned long long)chapters, kind);
     FILE *out = fopen(path, "wb");
@@ -105,7 +105,7 @@ static void next_chapter(void) {
     wants(stm_check(file, file_length, report, report_length) == STM_DONE);
     keep("stm", file, file_length);
     keep("report", report, report_length);
-    wants(stm_value(&store, (const uint8_t *)"n", 1, &entered, &version) == STM_DONE);
+    wants(stm_value(&store, "n", 1, &entered, &version) == STM_DONE);
     wants(stm_entered(&store) >= before && stm_begin_chapter(&store) == STM_DONE && stm_chapter(&store) == ++chapters);
     last_bytes = bytes_held;
     last_pages = resident_pages();
@@ -190,7 +190,7 @@ int main(int count, char **words) {
     int threads = atoi(words[3]);
     /* One arena for all threads, so that pages are as many as bytes want. */
     wants(0 < threads && threads <= MOST && mallopt(M_ARENA_MAX, 1) == 1);
-    wants(stm_read((const uint8_t *)FILE_TEXT, strlen(FILE_TEXT), &program) == STM_DONE);
+    wants(stm_read(FILE_TEXT, strlen(FILE_TEXT), &program) == STM_DONE);
     wants(stm_open_with_room(&program, (size_t)threads, 0, TASK_ROOM, &store) == STM_DONE && stm_open_lender(&store, &lender) == STM_DONE);
     for (int i = 0; i < SLEEPERS; i++) {
         stm_answer turn = calls(SLEEP, STM_WAITS);
