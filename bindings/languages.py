@@ -50,8 +50,8 @@ REFUSED = """line 2, column 19: F4 Name: no variable of this name is declared; h
                   ^
 """
 ORDERS = "10000 orders wait\n10000 are served: 30000 pieces\ntaken back"
-CUSTOMERS = """50000 customers, of whom 3525 left before they were served
-the others waited 0.43 minutes, at most 6
+CUSTOMERS = """50000 customers, of whom 7% left before they were served
+the others waited 0.4 minutes, at most 6
 """
 ORDERS_IN_PYTHON = "10000 orders wait\nall are served, and paid 90000\none is taken back\n"
 ORDERS_IN_C, ORDERS_IN_CPP = f"{ORDERS}: done\nclosed: 1\n", f"{ORDERS}\nclosed\n"

@@ -64,8 +64,10 @@ async def main():
         waited = [minutes for minutes in await asyncio.gather(*customers) if minutes is not None]
         ticks.cancel()
         assert (bank.value("free"), bank.value("awake")) == (COUNTERS, 0)
-        print(f"{CUSTOMERS} customers, of whom {CUSTOMERS - len(waited)} left before they were served")
-        print(f"the others waited {sum(waited) / len(waited):.2f} minutes, at most {max(waited)}")
+        # Who of two comes first within a minute hangs on the event loop, so no number is told to the last digit.
+        left = 1 - len(waited) / CUSTOMERS
+        print(f"{CUSTOMERS} customers, of whom {left:.0%} left before they were served")
+        print(f"the others waited {sum(waited) / len(waited):.1f} minutes, at most {max(waited)}")
 
 
 asyncio.run(main())
