@@ -237,7 +237,7 @@ fn play_all<R: Wait + Clock, N: Naming>(
     alloc: Global,
     service: &Service<N>,
     first: &Front<N>,
-    acts: &Vec<Act>,
+    acts: &[Act],
     thread: usize,
 ) -> Answered {
     let mut front = first.again();
@@ -257,7 +257,7 @@ fn side_by_side<R: Threads + Wait + Clock + Sync, N: Naming + Sync>(
     alloc: Global,
     service: &Service<N>,
     first: &Front<N>,
-    acts: &Vec<Act>,
+    acts: &[Act],
     count: usize,
 ) -> Vec<Answered> {
     let all = map_indices(
@@ -283,7 +283,7 @@ fn ended_by<R: Threads + Wait + Clock + Abort + Sync, N: Naming + Sync>(
     let Ok(acts) = acts_of(alloc, threads) else {
         panic!(rt; "no memory");
     };
-    let answered = side_by_side(rt, alloc, service, &first, &acts, threads.len());
+    let answered = side_by_side(rt, alloc, service, &first, acts.as_slice(), threads.len());
     let mut front = first;
     let report = match service.report(rt, &mut front) {
         Ok(report) => report,
