@@ -55,6 +55,8 @@ the others waited 0.4 minutes, at most 6
 """
 ORDERS_IN_PYTHON = "10000 orders wait\nall are served, and paid 90000\none is taken back\n"
 ORDERS_IN_C, ORDERS_IN_CPP = f"{ORDERS}: done\nclosed: 1\n", f"{ORDERS}\nclosed\n"
+WAGES = "999 of 1000 wages are paid\n999: thrown 50\n"
+WAGES_IN_PYTHON = "<stm.Answers: 999 of 1000 returned; not 999: Thrown(50)>\n"
 IN_RUST = {
     "bank": BANK,
     "calls": CALLS,

@@ -33,12 +33,15 @@ IN_C = [
     ("tests/taken.c", [], GOOD),
     ("tests/asked.c", [], GOOD),
     ("tests/arguments.c", [], GOOD),
+    ("tests/each.c", [], GOOD),
+    ("tests/each_threads.c", ["2000"], GOOD),
     ("tests/tables.c", [], GOOD),
     ("examples/tellers.c", [], languages.TELLERS),
     ("examples/transfers.c", [], languages.TRANSFERS),
     ("examples/orders.c", [], languages.ORDERS_IN_C),
     ("examples/refused.c", [], languages.REFUSED),
     ("examples/jobs.c", ["4"], languages.JOBS),
+    ("examples/wages.c", [], languages.WAGES),
 ]
 IN_CPP = [(f"tests/{name}.cpp", GOOD) for name in languages.TESTS]
 IN_CPP += [("examples/bounded_queue.cpp", languages.QUEUE), ("examples/orders.cpp", languages.ORDERS_IN_CPP)]

@@ -17,6 +17,7 @@
 #define _POSIX_C_SOURCE 200809L
 #endif
 #include "chapter_room.h"
+#include "each.h"
 #include "looks.h"
 #include "starting.h"
 #include "taking.h"

@@ -123,6 +123,26 @@ typedef struct stm_waiter {
  * asked nobody is. */
 int32_t stm_wait_by(stm_waiter *waiter);
 
+/* ---- Many calls at once ----
+ *
+ * Calls of one transaction, by a thread that has many to make: the way into the library and its lock are paid for some
+ * of them at a time. Each is a step of its own, in their order, and those of other threads may come in between: the lock
+ * is held for at most 64 calls, and no longer than some ten microseconds where one alone does not take longer. */
+
+/* Makes so many calls of the transaction. The arguments of all lie one behind the other, `count` for each, and there is
+ * room for as many answers as calls. Each is answered as by `stm_try_atomically`, also a long one: where one retries
+ * (STM_RETRIES), or there is no memory for it, those behind it are made all the same. From the first one on that is
+ * answered STM_NO_ROOM, STM_CLOSED, or STM_TIMED_OUT (`stm_wait_by`), none is made, and each is answered so: a host that
+ * does not keep a chapter is told it once. How many returned (STM_DONE). */
+size_t stm_each(stm_service *service, uint32_t transaction, const int64_t *arguments, size_t count, size_t calls,
+                stm_answer *answers);
+
+/* As `stm_each`, but it waits for nothing but the lock: how many are answered. Where these are fewer, the chapter is
+ * full, and the host has not kept the one before it: the next answer is STM_NOT_ENDED, and its value how often the host
+ * has said how it went with a chapter. Ask for the others when it has said so once more. */
+size_t stm_ask_each(stm_service *service, uint32_t transaction, const int64_t *arguments, size_t count, size_t calls,
+                    stm_answer *answers);
+
 /* ---- Calls without a thread ----
  *
  * A call that is started waits, and no thread with it; so there may be as many as a chapter has room for. While one

@@ -48,6 +48,26 @@ static stm_answer within(stm_service *s, uint32_t transaction, const int64_t *ar
     return stm_atomically_within(s, transaction, arguments, count, 1000);
 }
 
+/* Three calls at once, of which one may be refused memory: whether it was. It had no effect, and the others are made: the
+ * first value is that one, and each next one is greater by so much. */
+static int is_one_refused(stm_service *s, uint32_t transaction, int64_t value, int64_t more) {
+    stm_answer answers[3];
+    int told_of = 0;
+    size_t returned = stm_each(s, transaction, NULL, 0, 3, answers);
+    for (int i = 0; i < 3; i++) {
+        if (answers[i].code == STM_MEMORY) {
+            wants(answers[i].ticket == -1 && answers[i].value == 0 && answers[i].entry == 0);
+            told_of++;
+            continue;
+        }
+        wants(answers[i].code == STM_DONE && answers[i].value == value && answers[i].entry > 0);
+        value += more;
+    }
+    wants(returned == (size_t)(3 - told_of) && told_of <= 1);
+    if (told_of > 0) wants(stm_atomically(s, transaction, NULL, 0).value == value);
+    return told_of;
+}
+
 /* Judges a chapter, while nothing is refused or counted. */
 static int judges_in_peace(void *own, const char *file, size_t file_length, const char *report, size_t report_length) {
     long of = refused, made = requests, most = most_bytes;
@@ -84,6 +104,9 @@ static int lives(void) {
     told_of += is_refused(s, stm_service_observe, FAR, STM_DONE, 3);
     told_of += is_refused(s, stm_atomically, FAR, STM_DONE, 3);
     told_of += is_refused(s, stm_atomically, FAR_WAIT, STM_DONE, 1);
+    told_of += is_one_refused(s, WIDE, 3, 1);
+    told_of += is_one_refused(s, LONG, 6, 1);
+    told_of += is_one_refused(s, FAR, 3, 0);
     size_t length = 0;
     code = stm_service_report(s, room, sizeof room, &length);
     if (code != STM_DONE) wants(code == STM_MEMORY && ++told_of == 1);
