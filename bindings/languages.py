@@ -9,7 +9,7 @@ HERE = os.path.dirname(os.path.abspath(__file__))
 WARN = ["-Wall", "-Wextra", "-Wpedantic", "-Wconversion", "-Wshadow", "-Werror"]
 COMPILERS = ("g++", "clang++")
 # The tests of stm.hpp.
-TESTS = ("service", "started", "given_up", "arguments", "tables", "refused")
+TESTS = ("service", "started", "given_up", "arguments", "tables", "refused", "each")
 # A host that looks at no answer: each of its statements, but for the first one, is warned of.
 CARELESS = b"""#include "stm.hpp"
 void careless(stm::service &bank) {
@@ -17,6 +17,7 @@ void careless(stm::service &bank) {
     bank.atomically("pay", {5});
     bank.try_atomically(0);
     bank.atomically_within(std::chrono::seconds(1), "pay");
+    bank.each("pay", stm::rows(nullptr, 1, 0));
     bank.observe("pay");
     bank.start("pay", {5}, [](stm::outcome) {});
     bank.future("pay", {5});
@@ -110,6 +111,7 @@ def cpp(case, run, work, library):
         prints("refused.cpp", REFUSED, built(word, "examples/refused.cpp", "refused"))
         prints("transfers.cpp", TRANSFERS, built(word, "examples/transfers.cpp", "transfers"))
         prints("simulation.cpp", simulated(MINUTES), built(word, "examples/simulation.cpp", "simulation"), MINUTES)
+        prints("wages.cpp", WAGES, built(word, "examples/wages.cpp", "wages"))
     for word, (name, flag) in ((word, one) for word in there[:1] for one in (("address", "address,undefined"), ("thread", "thread"))):
         flags = [f"-fsanitize={flag}", "-g", "-fno-sanitize-recover=all"]
         probe = os.path.join(work, "probe.cpp")

@@ -46,6 +46,7 @@ IN_C = [
 IN_CPP = [(f"tests/{name}.cpp", GOOD) for name in languages.TESTS]
 IN_CPP += [("examples/bounded_queue.cpp", languages.QUEUE), ("examples/orders.cpp", languages.ORDERS_IN_CPP)]
 IN_CPP += [("examples/transfers.cpp", languages.TRANSFERS), ("examples/refused.cpp", languages.REFUSED)]
+IN_CPP += [("examples/wages.cpp", languages.WAGES)]
 
 
 def compiled(case, run, work, library, word, source, *flags):

@@ -24,6 +24,7 @@
 #include <functional>
 #include <future>
 #include <initializer_list>
+#include <iterator>
 #include <limits>
 #include <memory>
 #include <optional>
@@ -181,6 +182,38 @@ public:
 private:
     std::array<std::int64_t, 8> first_{};
     std::size_t count_ = 0;
+};
+
+namespace detail {
+
+/// What lies behind one another there.
+template <class Rows> using row_of = std::decay_t<decltype(*std::data(std::declval<const Rows &>()))>;
+
+} // namespace detail
+
+/// What many calls give their transaction, a row for each: a std::vector, a std::array or the like of
+/// std::array<std::int64_t, N>; or the numbers of all, one behind the other. It only looks at them.
+class rows {
+public:
+    template <class Rows, std::size_t N = std::tuple_size<detail::row_of<Rows>>::value>
+    rows(const Rows &given) noexcept : count_(N), size_(std::size(given)) {
+        const std::array<std::int64_t, N> *first = std::data(given);
+        static_assert(N == 0 || sizeof(*first) == N * sizeof(std::int64_t), "they lie one behind the other");
+        if (size_ > 0) numbers_ = first->data();
+    }
+    /// So many calls, with so many numbers each.
+    rows(const std::int64_t *numbers, std::size_t count, std::size_t calls) noexcept
+        : numbers_(numbers), count_(count), size_(calls) {}
+
+    /// The numbers of all rows, and how many each has.
+    const std::int64_t *data() const noexcept { return numbers_; }
+    std::size_t count() const noexcept { return count_; }
+    /// How many rows there are.
+    std::size_t size() const noexcept { return size_; }
+
+private:
+    const std::int64_t *numbers_ = nullptr;
+    std::size_t count_, size_;
 };
 
 /// How a call ended. It is true where the transaction returned.
@@ -454,6 +487,20 @@ public:
     outcome atomically_within(std::chrono::duration<Rep, Period> time, std::string_view name,
                               arguments given = {}) noexcept {
         return by_name(name, [&](std::uint32_t number) { return atomically_within(time, number, given); });
+    }
+
+    /// Makes a call for each row, in their order, each a step of its own, as `try_atomically` does: for who makes many.
+    /// Where one retries or does not return, those behind it are made all the same. From the first one on that is
+    /// answered `STM_NO_ROOM` or `STM_CLOSED` none is made, and each is answered so.
+    [[nodiscard]] std::vector<outcome> each(std::uint32_t transaction, const rows &given) {
+        std::vector<stm_answer> told(given.size(), none(STM_EMPTY));
+        if (held_) stm_each(held_->at, transaction, given.data(), given.count(), told.size(), told.data());
+        return std::vector<outcome>(told.begin(), told.end());
+    }
+    [[nodiscard]] std::vector<outcome> each(std::string_view name, const rows &given) {
+        auto number = transaction(name);
+        if (number) return each(*number, given);
+        return std::vector<outcome>(given.size(), outcome(none(held_ ? STM_UNKNOWN : STM_EMPTY)));
     }
 
     /// Starts the call, and no thread waits for it: `done`, which takes an `outcome`, is called with how it ended,
