@@ -67,6 +67,7 @@ IN_RUST = {
     "schedule": "10000 jobs wait\n10000 jobs are done, each after those that it needs\nGood\n",
     "tellers": "Ok(80)\nErr(Thrown(90))\n",
     "transfers": TRANSFERS,
+    "wages": WAGES.replace("thrown 50", "Thrown(50)"),
     "workers": "4000 transfers, each paid or refused\nGood\n",
 }
 

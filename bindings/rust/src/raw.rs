@@ -5,6 +5,7 @@
 
 mod calls;
 mod code;
+mod each;
 mod explaining;
 mod names;
 mod service;

@@ -170,6 +170,25 @@ impl Service {
         self.receipts().atomically_within(transaction, arguments, time)?.returned()
     }
 
+    /// Makes a call for each row, in their order, each a step of its own, as `try_atomically` does: for who makes many. What
+    /// each returned, or why it did not: those behind it are made all the same. From the first one on that is answered
+    /// `NoRoom` or `Closed` none is made, and each is answered so.
+    ///
+    /// ```
+    /// use stm::Fault;
+    ///
+    /// let bank = stm::Service::open(
+    ///     "(stm 3) (table acct 9 100) (tx pay (from to k) (seq (if (lt (at acct from) k) (throw k) (skip))
+    ///      (put acct from (sub (at acct from) k)) (put acct to (add (at acct to) k))) (at acct from))",
+    /// )?;
+    /// let paid = bank.each(0, &[[3, 5, 60], [3, 5, 60], [5, 3, 10]]);
+    /// assert_eq!(paid, [Ok(40), Err(Fault::Thrown(60)), Ok(150)]);
+    /// # Ok::<(), stm::Error>(())
+    /// ```
+    pub fn each<const N: usize>(&self, transaction: u32, rows: &[[i64; N]]) -> Vec<Result<i64, Fault>> {
+        self.raw.each(transaction, rows).map(|made| made?.returned()).collect()
+    }
+
     /// The call as a future of what `atomically` answers, over any executor: no thread waits for it. It is made when it
     /// is polled first, and given up where it is dropped before it has ended.
     ///
@@ -334,6 +353,11 @@ impl<'a> Receipts<'a> {
     ) -> Result<Receipt, Fault> {
         let nanoseconds = u64::try_from(time.as_nanos()).unwrap_or(u64::MAX);
         self.raw.atomically_within(transaction, arguments, nanoseconds)
+    }
+
+    /// As `Service::each`.
+    pub fn each<const N: usize>(self, transaction: u32, rows: &[[i64; N]]) -> Vec<Result<Receipt, Fault>> {
+        self.raw.each(transaction, rows).collect()
     }
 
     /// As `Service::call`.
