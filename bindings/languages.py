@@ -55,9 +55,9 @@ CUSTOMERS = """50000 customers, of whom 7% left before they were served
 the others waited 0.4 minutes, at most 6
 """
 ORDERS_IN_PYTHON = "10000 orders wait\nall are served, and paid 90000\none is taken back\n"
-ORDERS_IN_C, ORDERS_IN_CPP = f"{ORDERS}: done\nclosed: 1\n", f"{ORDERS}\nclosed\n"
 WAGES = "999 of 1000 wages are paid\n999: thrown 50\n"
 WAGES_IN_PYTHON = "<stm.Answers: 999 of 1000 returned; not 999: Thrown(50)>\n"
+ORDERS_IN_C, ORDERS_IN_CPP = f"{ORDERS}: done\nclosed: 1\n", f"{ORDERS}\nclosed\n"
 IN_RUST = {
     "bank": BANK,
     "calls": CALLS,
@@ -111,8 +111,8 @@ def cpp(case, run, work, library):
         prints("orders.cpp", ORDERS_IN_CPP, built(word, "examples/orders.cpp", "orders"))
         prints("refused.cpp", REFUSED, built(word, "examples/refused.cpp", "refused"))
         prints("transfers.cpp", TRANSFERS, built(word, "examples/transfers.cpp", "transfers"))
-        prints("simulation.cpp", simulated(MINUTES), built(word, "examples/simulation.cpp", "simulation"), MINUTES)
         prints("wages.cpp", WAGES, built(word, "examples/wages.cpp", "wages"))
+        prints("simulation.cpp", simulated(MINUTES), built(word, "examples/simulation.cpp", "simulation"), MINUTES)
     for word, (name, flag) in ((word, one) for word in there[:1] for one in (("address", "address,undefined"), ("thread", "thread"))):
         flags = [f"-fsanitize={flag}", "-g", "-fno-sanitize-recover=all"]
         probe = os.path.join(work, "probe.cpp")
@@ -137,6 +137,7 @@ def python(case, run, library):
     done = run(*words, "-m", "unittest", "discover", "-s", f"{HERE}/python/tests", env=there, timeout=400)
     case("the tests in Python", done.returncode == 0, told_by(done))
     examples = {"bank": BANK, "bounded_queue": QUEUE, "jobs": JOBS, "orders": ORDERS_IN_PYTHON}
+    examples["wages"] = WAGES_IN_PYTHON
     for name, wanted in {**examples, "refused": REFUSED, "simulation": CUSTOMERS, "transfers": TRANSFERS}.items():
         done = run(*words, f"{HERE}/examples/{name}.py", env=there, timeout=400)
         case(f"{name}.py", done.stdout.decode() == wanted, told_by(done))

@@ -16,6 +16,7 @@
 and column, as `explain` does.
 """
 
+from ._each import Answers
 from ._faults import (
     Broken,
     Closed,
@@ -41,6 +42,7 @@ from ._service import Counts, Service
 from ._table import Table
 
 __all__ = [
+    "Answers",
     "Broken",
     "Closed",
     "Counts",

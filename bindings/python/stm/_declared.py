@@ -120,6 +120,8 @@ CALLS: Dict[str, Tuple[Any, List[Any]]] = {
     "stm_atomically": (Answer, _CALL),
     "stm_try_atomically": (Answer, _CALL),
     "stm_atomically_within": (Answer, [*_CALL, ctypes.c_uint64]),
+    # Where the answers lie.
+    "stm_ask_each": (ctypes.c_size_t, [*_CALL, ctypes.c_size_t, ctypes.c_void_p]),
     # The last is where a request lies.
     "stm_ask": (_CODE, [_SERVICE, ctypes.c_void_p]),
     "stm_cancel": (_CODE, [_SERVICE, ctypes.c_int64]),

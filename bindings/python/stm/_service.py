@@ -29,12 +29,13 @@ from ._faults import (
 )
 from ._files import bounded, copied, refused, signed, taken
 from ._declared import Answer
+from ._each import PORTION, Answers, Given, RoomOfEach, Rows
 from ._held import Held
 from ._keeper import Keeper, OnChapter
 from ._library import library, word
 from ._names import Declared, condition_name, declared_by, table_names
 from ._table import Table
-from ._told import Room, RoomOfLoop, RoomOfThread, Teller, main
+from ._told import RoomOfLoop, RoomOfThread, Teller, main
 
 _SAME = {
     _declared.OVERFLOW: Overflow,
@@ -183,6 +184,42 @@ class Service:
             return self._returned(self._asked(room, None), room)
         return self._returned(library.stm_try_atomically(*self._given(found, room)), room)
 
+    def each(self, transaction: str, rows: Rows) -> Answers:
+        """Makes a call for each row, in their order, each a step of its own, as `try_atomically` does: for who makes
+        many. The rows are sequences; or lie one behind the other in an `array("q")`, or in another such buffer, also
+        of two dimensions: where it is in one piece it is not copied. Where a row is wrong no call is made. Where a call
+        does not return, those behind it are made all the same; but from the first one on for which there is no room, or
+        that finds the service closed, they are answered so too. An interrupt comes between two calls: what was entered
+        stays so, and the answers are lost."""
+        if self._stops:
+            self._stop()
+        found = self._found.get(transaction) or self._transaction(transaction)
+        given = Given(found.name, found.parameters, rows, found.wrong)
+        room, answers = RoomOfEach(min(given.calls, PORTION)), Answers(self._fault)
+        for begin in range(0, given.calls, PORTION):
+            count = min(PORTION, given.calls - begin)
+            made = self._made(found, given, begin, room, count)
+            answers.add(room, made)
+            if made < count or answers.codes[-1] == _declared.NO_ROOM:
+                answers.end(given.calls - len(answers), self._failed())
+                break
+        return answers
+
+    def _made(self, found: _Transaction, given: Given, begin: int, room: RoomOfEach, count: int) -> int:
+        """Makes a portion of calls: how many are answered. For the others there is no room."""
+        made, keeper, call = 0, self._keeper, library.stm_ask_each
+        while True:
+            made += call(
+                self._at, found.number, given.at(begin + made), found.parameters, count - made, room.at(made)
+            )
+            if made == count or keeper is None:
+                return made
+            answer = room.answer(made)
+            if keeper.ident != get_ident():
+                keeper.wait(answer.value, None)
+            if not self._goes_on(keeper, answer):
+                return made
+
     async def call(self, transaction: str, arguments: Sequence[int] = ()) -> int:
         """As `atomically`, awaited under asyncio: no thread waits for it, and any number of them may wait in one. To
         cancel it is to give it up, so `asyncio.wait_for` limits its time; what was entered before stays entered."""
@@ -218,7 +255,7 @@ class Service:
         while code == _declared.NOT_ENDED and keeper is not None:
             if keeper.ident != get_ident():
                 await keeper.has_said(room.answer.value)
-            if not self._goes_on(keeper, room):
+            if not self._goes_on(keeper, room.answer):
                 break
             code = _ask(self._at, room.at)
             self._teller.tell_others(room)
@@ -359,19 +396,19 @@ class Service:
                     answer = room.answer
                 elif keeper.ident != get_ident() and not keeper.wait(room.answer.value, until):
                     answer = Answer(ticket=-1, code=_declared.TIMED_OUT)
-                elif not self._goes_on(keeper, room):
+                elif not self._goes_on(keeper, room.answer):
                     answer = room.answer
         finally:
             if answer is None:
                 self._teller.leave(room)
         return answer
 
-    def _goes_on(self, keeper: Keeper, room: Room) -> bool:
+    def _goes_on(self, keeper: Keeper, answer: Answer) -> bool:
         """Whether a call that found the chapter full is asked for again, when the keeper has said how it went with the
         one before; else there is no room for it, as for one that would wait for itself."""
-        if keeper.ident != get_ident() and (keeper.said <= room.answer.value or self._failed() is None):
+        if keeper.ident != get_ident() and (keeper.said <= answer.value or self._failed() is None):
             return True
-        room.answer.code = _declared.NO_ROOM
+        answer.code = _declared.NO_ROOM
         return False
 
     def _failed(self) -> Optional[BaseException]:
