@@ -4,33 +4,32 @@
 use std::error::Error;
 use std::sync::atomic::{AtomicBool, Ordering};
 use std::sync::mpsc;
-use stm::{lt, param, seq, skip, throw, when, Declare, Fault, Service, ServiceOptions, Verdict};
+use stm::{lt, param, seq, skip, throw, when, Declare, Fault, Service, ServiceOptions, Transaction, Verdict};
 
 const ACCOUNTS: usize = 1000;
 const EACH: i64 = 100;
 const THREADS: usize = 4;
 const TRANSFERS: usize = 1000;
 
-/// A payer has the amount, or the transfer throws what is missing.
-fn declared() -> Declare {
+/// The bank, to pay, and to audit. A payer has the amount, or the transfer throws what is missing.
+fn declared() -> (Declare, Transaction<3>, Transaction<0>) {
     let mut bank = Declare::new();
     let acct = bank.table("acct", ACCOUNTS, EACH);
-    bank.tx_with("pay", ["from", "to", "n"], |[from, to, n]| {
+    let pay = bank.tx_with("pay", ["from", "to", "n"], |[from, to, n]| {
         let missing = throw(param(&n) - acct.at(&from));
         let paid = seq([acct.put(&from, acct.at(&from) - &n), acct.put(&to, acct.at(&to) + &n)]);
         (when(lt(acct.at(&from), &n), missing, paid), acct.at(&from))
     });
-    bank.tx("audit", skip(), acct.sum());
-    bank
+    let audit = bank.tx("audit", skip(), acct.sum());
+    (bank, pay, audit)
 }
 
 /// Transfers between all accounts: how many were paid.
-fn teller(bank: &Service, first: usize) -> Result<usize, Fault> {
-    let pay = bank.transaction("pay").expect("it is declared");
+fn teller(bank: &Service, pay: Transaction<3>, first: usize) -> Result<usize, Fault> {
     let mut paid = 0;
     for turn in first..first + TRANSFERS {
         let [from, to, n] = [turn * 7 % ACCOUNTS, turn * 13 % ACCOUNTS, turn % 150].map(|one| one as i64);
-        match bank.atomically(pay, &[from, to, n]) {
+        match bank.atomically(pay, [from, to, n]) {
             Ok(_left) => paid += 1,
             Err(Fault::Thrown(missing)) => assert!(missing > 0),
             Err(fault) => return Err(fault),
@@ -44,16 +43,17 @@ fn main() -> Result<(), Box<dyn Error>> {
     let options = ServiceOptions::new()
         .room(1500)
         .on_chapter(move |file, report| keep.send((file.to_string(), report.to_string())));
-    let bank = Service::open_with(&declared().text()?, options)?;
-    let audit = bank.transaction("audit").expect("it is declared");
+    let (declare, pay, audit) = declared();
+    let bank = declare.service_with(options)?;
     let is_open = AtomicBool::new(true);
     let paid: Result<Vec<usize>, Fault> = std::thread::scope(|scope| {
         let bank = &bank;
+        let begin = |i| i * ACCOUNTS / THREADS;
         let tellers: Vec<_> =
-            (0..THREADS).map(|i| scope.spawn(move || teller(bank, i * ACCOUNTS / THREADS))).collect();
+            (0..THREADS).map(|i| scope.spawn(move || teller(bank, pay, begin(i)))).collect();
         scope.spawn(|| {
             while is_open.load(Ordering::SeqCst) {
-                assert_eq!(bank.observe(audit, &[]), Ok(ACCOUNTS as i64 * EACH));
+                assert_eq!(bank.observe(audit, []), Ok(ACCOUNTS as i64 * EACH));
             }
         });
         let ended: Vec<_> = tellers.into_iter().map(|teller| teller.join()).collect();

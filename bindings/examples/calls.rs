@@ -21,28 +21,25 @@ fn main() -> Result<(), Error> {
     let mut declare = Declare::new();
     let (here, out) = (declare.var("here", 100), declare.var("out", 0));
     let pay = when(lt(&here, 60), throw(60), set(&here, var(&here) - 60));
-    declare.tx("pay", pay, &here);
-    declare.tx("put", set(&out, var(&out) + 1), &out);
-    declare.tx("get", when(lt(&out, 1), retry(), set(&out, var(&out) - 1)), &out);
-    let program = declare.program()?;
-    let number = |name| program.transaction(name).expect("it is declared");
-    let (pay, put, get) = (number("pay"), number("put"), number("get"));
+    let pay = declare.tx("pay", pay, &here);
+    let put = declare.tx("put", set(&out, var(&out) + 1), &out);
+    let get = declare.tx("get", when(lt(&out, 1), retry(), set(&out, var(&out) - 1)), &out);
 
-    let store = Store::open_with_room(&program, 0, 0, 5)?;
-    tell("pay", store.call(pay, &[], Way::Waits));
-    tell("pay", store.call(pay, &[], Way::Waits));
-    tell("get", store.call(get, &[], Way::Waits));
+    let store = Store::open_with_room(&declare.program()?, 0, 0, 5)?;
+    tell("pay", store.call(pay, [], Way::Waits));
+    tell("pay", store.call(pay, [], Way::Waits));
+    tell("get", store.call(get, [], Way::Waits));
     std::thread::scope(|scope| {
-        scope.spawn(|| tell("put", store.call(put, &[], Way::Waits)));
+        scope.spawn(|| tell("put", store.call(put, [], Way::Waits)));
     });
     while let Ok(woken) = store.take() {
         println!("ticket {} was woken", woken.ticket.0);
         tell("get", store.turn(woken));
     }
-    tell("get", store.call(get, &[], Way::Tries));
+    tell("get", store.call(get, [], Way::Tries));
     let (report, file) = store.report_and_file()?;
     println!("{:?}", stm::check(&file, &report)?);
     store.begin_chapter();
-    tell("put", store.call(put, &[], Way::Waits));
+    tell("put", store.call(put, [], Way::Waits));
     Ok(())
 }

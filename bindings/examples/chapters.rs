@@ -1,7 +1,7 @@
 //! A simulation in chapters: a queue before a counter, minute by minute, in one store that goes on for as long as it is
 //! wanted. Each chapter has a file and a report of its own, which a check judges, and begins where the one before ended.
 
-use stm::{and, le, lt, rem, seq, set, skip, var, when, Declare, Program, Store, Verdict, Way};
+use stm::{and, le, lt, rem, seq, set, skip, var, when, Declare, Error, Program, Store, Transaction, Verdict, Way};
 
 const CHAPTERS: u32 = 5;
 const MINUTES: u32 = 200;
@@ -15,9 +15,9 @@ struct State {
     longest: i64,
 }
 
-/// A minute: somebody comes in two minutes of three, by a generator of numbers, and somebody is served in three of
-/// four.
-fn queue(from: State) -> Result<Program, stm::Error> {
+/// The queue, and a minute of it: somebody comes in two minutes of three, by a generator of numbers, and somebody is
+/// served in three of four.
+fn queue(from: State) -> Result<(Program, Transaction<0>), Error> {
     let mut queue = Declare::new();
     let seed = queue.var("seed", from.seed);
     let waiting = queue.var("waiting", from.waiting);
@@ -32,8 +32,8 @@ fn queue(from: State) -> Result<Program, stm::Error> {
         seq([set(&waiting, var(&waiting) - 1), set(&served, var(&served) + 1)]),
         skip(),
     );
-    queue.tx("minute", seq([draw(), comes, draw(), goes]), &waiting);
-    queue.program()
+    let minute = queue.tx("minute", seq([draw(), comes, draw(), goes]), &waiting);
+    Ok((queue.program()?, minute))
 }
 
 /// The same minutes, in plain Rust.
@@ -65,15 +65,14 @@ fn present(store: &Store) -> State {
     }
 }
 
-fn main() -> Result<(), stm::Error> {
+fn main() -> Result<(), Error> {
     let mut state = State { seed: 42, waiting: 0, served: 0, longest: 0 };
-    let program = queue(state)?;
-    let minute = program.transaction("minute").expect("it is declared");
+    let (program, minute) = queue(state)?;
     let store = Store::open_with_room(&program, 0, 0, MINUTES as usize)?;
     let mut good = 0;
     for _ in 0..CHAPTERS {
         for _ in 0..MINUTES {
-            store.call(minute, &[], Way::Waits)?;
+            store.call(minute, [], Way::Waits)?;
         }
         state = plainly(state);
         assert_eq!(present(&store), state);

@@ -6,12 +6,27 @@ use std::pin::Pin;
 use std::sync::atomic::{AtomicBool, Ordering};
 use std::sync::Arc;
 use std::task::{Context, Poll, Wake, Waker};
-use stm::{Fault, Service};
+use stm::{Error, Fault, Service, Transaction};
 
 const ORDERS: i64 = 10_000;
-const SHOP: &str = "(stm 3) (var stock 0)
+const TEXT: &str = "(stm 3) (var stock 0)
     (tx order (k) (if (lt stock k) (retry) (set stock (sub stock k))) k)
     (tx deliver (k) (set stock (add stock k)) stock)";
+
+/// What can be called in the shop.
+struct Shop {
+    service: Service,
+    order: Transaction<1>,
+    deliver: Transaction<1>,
+}
+
+impl Shop {
+    fn open() -> Result<Shop, Error> {
+        let service = Service::open(TEXT)?;
+        let (order, deliver) = (service.transaction_of("order")?, service.transaction_of("deliver")?);
+        Ok(Shop { service, order, deliver })
+    }
+}
 
 /// An order, and whether it was woken.
 struct Order<'a> {
@@ -34,8 +49,8 @@ impl Wake for Woken {
 }
 
 /// It is paid once it was served.
-async fn order(shop: &Service, pieces: i64) -> Result<i64, Fault> {
-    let served = shop.call(0, &[pieces]).await?;
+async fn order(shop: &Shop, pieces: i64) -> Result<i64, Fault> {
+    let served = shop.service.call(shop.order, [pieces]).await?;
     Ok(served * 3)
 }
 
@@ -59,18 +74,19 @@ fn poll(orders: &mut Vec<Order<'_>>) -> Result<i64, Fault> {
 }
 
 fn main() -> Result<(), Box<dyn std::error::Error>> {
-    let shop = Service::open(SHOP)?;
+    let shop = Shop::open()?;
     let mut orders: Vec<_> = (0..ORDERS).map(|i| Order::new(order(&shop, i % 5 + 1))).collect();
     let mut paid = poll(&mut orders)?;
     println!("{} orders wait", orders.len());
     while !orders.is_empty() {
-        shop.atomically(1, &[5_000])?;
+        shop.service.atomically(shop.deliver, [5_000])?;
         paid += poll(&mut orders)?;
     }
     println!("all are served, and paid {paid}");
     orders.push(Order::new(order(&shop, 1_000_000)));
     poll(&mut orders)?;
     orders.clear();
-    println!("one is taken back: {}", shop.try_atomically(0, &[1]) == Err(Fault::Retries));
+    let none_left = shop.service.try_atomically(shop.order, [1]) == Err(Fault::Retries);
+    println!("one is taken back: {none_left}");
     Ok(())
 }

@@ -7,7 +7,7 @@ use std::pin::Pin;
 use std::sync::{Arc, Condvar, Mutex};
 use std::task::{Context, Poll, Wake, Waker};
 use std::thread;
-use stm::{Error, Fault, Service};
+use stm::{Error, Fault, Service, Transaction};
 
 const JOBS: usize = 10_000;
 const THREADS: usize = 4;
@@ -18,10 +18,21 @@ const PROGRAM: &str = "(stm 3)
     (tx end (job) (seq (put done job 1) (set left (sub left 1))) left)
     (tx open () (put done 0 1) 0)
     (tx all () (if (lt 0 left) (retry) (skip)) left)";
-const BEGIN: u32 = 0;
-const END: u32 = 1;
-const OPEN: u32 = 2;
-const ALL: u32 = 3;
+
+/// The service, and what each job calls there.
+struct Scheduler {
+    service: Service,
+    begin: Transaction<2>,
+    end: Transaction<1>,
+}
+
+impl Scheduler {
+    fn open() -> Result<Scheduler, Error> {
+        let service = Service::open(PROGRAM)?;
+        let (begin, end) = (service.transaction_of("begin")?, service.transaction_of("end")?);
+        Ok(Scheduler { service, begin, end })
+    }
+}
 
 /// Which jobs one of 1 .. 10,000 needs; 0 is no job, but that the doors are open.
 fn needs(job: usize) -> [usize; 2] {
@@ -84,21 +95,23 @@ fn works(jobs: &[Mutex<Option<Task<'_>>>], ready: &Arc<Ready>) {
 /// The places in the history at which a job began and ended.
 type Places = Mutex<[u64; 2]>;
 
-async fn job(service: &Service, number: usize, places: &Places) -> Result<(), Fault> {
-    let [first, second] = needs(number).map(|job| job as i64);
-    let begun = service.receipts().call(BEGIN, &[first, second]).await?;
+async fn job(scheduler: &Scheduler, number: usize, places: &Places) -> Result<(), Fault> {
+    let calls = scheduler.service.receipts();
+    let begun = calls.call(scheduler.begin, needs(number).map(|job| job as i64)).await?;
     // Here is the work.
-    let ended = service.receipts().call(END, &[number as i64]).await?;
+    let ended = calls.call(scheduler.end, [number as i64]).await?;
     *places.lock().unwrap() = [begun.place, ended.place];
     Ok(())
 }
 
 fn main() -> Result<(), Error> {
-    let service = Service::open(PROGRAM)?;
+    let scheduler = Scheduler::open()?;
+    let service = &scheduler.service;
+    let (open, all) = (service.transaction_of::<0>("open")?, service.transaction_of::<0>("all")?);
     let places: Vec<Places> = (0..=JOBS).map(|_| Mutex::default()).collect();
     let ready = Arc::new(Ready::default());
     let jobs: Vec<Mutex<Option<Task<'_>>>> = (1..=JOBS)
-        .map(|number| Mutex::new(Some(Box::pin(job(&service, number, &places[number])) as Task<'_>)))
+        .map(|number| Mutex::new(Some(Box::pin(job(&scheduler, number, &places[number])) as Task<'_>)))
         .collect();
     (0..JOBS).for_each(|number| ready.add(number));
     thread::scope(|scope| {
@@ -107,8 +120,8 @@ fn main() -> Result<(), Error> {
             thread::yield_now();
         }
         println!("{JOBS} jobs wait");
-        service.atomically(OPEN, &[]).expect("it returns");
-        service.atomically(ALL, &[]).expect("it returns");
+        service.atomically(open, []).expect("it returns");
+        service.atomically(all, []).expect("it returns");
         ready.ends();
     });
     drop(jobs);

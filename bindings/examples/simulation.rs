@@ -3,7 +3,7 @@
 
 use std::error::Error;
 use stm::{
-    and, eq, le, lt, rem, seq, set, skip, var, when, Declare, Fault, Service, ServiceOptions, Verdict,
+    and, eq, le, lt, rem, seq, set, skip, var, when, Declare, Fault, Service, ServiceOptions, Transaction, Verdict,
 };
 
 const MINUTES: u64 = 10_000_000;
@@ -11,7 +11,8 @@ const MINUTES: u64 = 10_000_000;
 /// some parts may see it grow, but not all.
 const PARTS: u64 = 5;
 
-fn declared() -> Declare {
+/// The shop, and a minute of it.
+fn declared() -> (Declare, Transaction<0>) {
     let mut shop = Declare::new();
     let (seed, came) = (shop.var("seed", 42), shop.var("came", 0));
     let (waiting, served, lost) = (shop.var("waiting", 0), shop.var("served", 0), shop.var("lost", 0));
@@ -23,8 +24,8 @@ fn declared() -> Declare {
     let comes = when(lt(rem(&seed, 3000), 2000), seq([more(&came), sits]), skip());
     let is_served = seq([set(&waiting, var(&waiting) - 1), more(&served)]);
     let goes = when(and(lt(0, &waiting), lt(rem(&seed, 4000), 2500)), is_served, skip());
-    shop.tx("minute", seq([draw(), comes, draw(), goes]), &waiting);
-    shop
+    let minute = shop.tx("minute", seq([draw(), comes, draw(), goes]), &waiting);
+    (shop, minute)
 }
 
 /// The same in plain Rust: how many are served, and how many go away.
@@ -47,9 +48,8 @@ fn plainly(minutes: u64) -> (i64, i64) {
 }
 
 /// So many minutes, by two threads: a minute is a minute, whoever has it done.
-fn run(shop: &Service, minutes: u64) -> Result<(), Fault> {
-    let minute = shop.transaction("minute").expect("it is declared");
-    let half = || (0..minutes / 2).try_for_each(|_| shop.atomically(minute, &[]).map(drop));
+fn run(shop: &Service, minute: Transaction<0>, minutes: u64) -> Result<(), Fault> {
+    let half = || (0..minutes / 2).try_for_each(|_| shop.atomically(minute, []).map(drop));
     std::thread::scope(|scope| {
         let other = scope.spawn(half);
         half().and(other.join().expect("a thread ends"))
@@ -70,11 +70,12 @@ fn main() -> Result<(), Box<dyn Error>> {
         Ok(Verdict::Good) => Ok(()),
         other => Err(other),
     });
-    let shop = Service::open_with(&declared().text()?, options)?;
+    let (declare, minute) = declared();
+    let shop = declare.service_with(options)?;
     let mut grown = i64::MAX;
     for _ in 0..PARTS {
         let before = resident();
-        run(&shop, minutes / PARTS)?;
+        run(&shop, minute, minutes / PARTS)?;
         grown = grown.min(resident() - before);
     }
     let value = |name| shop.value(name).expect("it is declared").0;

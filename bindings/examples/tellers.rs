@@ -5,15 +5,14 @@ use stm::{lt, seq, skip, throw, when, Declare};
 fn main() -> Result<(), stm::Error> {
     let mut declare = Declare::new();
     let acct = declare.table("acct", 1000, 100);
-    declare.tx_with("pay", ["from", "to", "n"], |[from, to, n]| {
+    let pay = declare.tx_with("pay", ["from", "to", "n"], |[from, to, n]| {
         let refuse = when(lt(acct.at(&from), &n), throw(&n), skip());
         let take = acct.put(&from, acct.at(&from) - &n);
         (seq([refuse, take, acct.put(&to, acct.at(&to) + &n)]), acct.at(&from))
     });
     let bank = declare.service()?;
-    let pay = bank.transaction("pay").expect("it is declared");
     for n in [20, 90] {
-        println!("{:?}", bank.atomically(pay, &[3, 5, n]));
+        println!("{:?}", bank.atomically(pay, [3, 5, n]));
     }
     Ok(())
 }

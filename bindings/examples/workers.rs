@@ -8,7 +8,7 @@
 use std::sync::atomic::{AtomicBool, Ordering};
 use stm::{
     and, eq, le, lt, seq, set, skip, sum, throw, var, when, Declare, End, Error, Job, Outcome, Program,
-    Store, Var, Worker,
+    Store, Transaction, Var, Worker,
 };
 
 const ACCOUNTS: usize = 8;
@@ -16,7 +16,8 @@ const EACH: i64 = 100;
 const TRANSFERS: u32 = 500;
 const THREADS: usize = 4;
 
-fn bank() -> Result<Program, Error> {
+/// The bank, and an audit of it.
+fn bank() -> Result<(Program, Transaction<0>), Error> {
     let mut bank = Declare::new();
     let accounts: Vec<Var> = (0..ACCOUNTS).map(|i| bank.var(&format!("account{i}"), EACH)).collect();
     let total = ACCOUNTS as i64 * EACH;
@@ -31,11 +32,11 @@ fn bank() -> Result<Program, Error> {
         let body = when(lt(var(payer), amount), throw(amount), move_money);
         transfers.push(bank.tx(&format!("transfer{from}"), body, var(payer)));
     }
-    bank.tx("audit", skip(), sum(&accounts));
-    for transfer in &transfers {
+    let audit = bank.tx("audit", skip(), sum(&accounts));
+    for transfer in transfers {
         bank.run(transfer, TRANSFERS);
     }
-    bank.program()
+    Ok((bank.program()?, audit))
 }
 
 /// While this is there the bank is open. It closes where a teller fails, too: else the auditor would never end.
@@ -82,10 +83,10 @@ fn transfer(store: &Store, teller: &mut Worker, job: Job) -> Result<Outcome, Err
 }
 
 /// The life of the auditor: audits while the bank is open, and one at least. How many there were.
-fn watch(auditor: &mut Worker, audit: u32, is_open: &AtomicBool) -> Result<u32, Error> {
+fn watch(auditor: &mut Worker, audit: Transaction<0>, is_open: &AtomicBool) -> Result<u32, Error> {
     let mut audits = 0;
     while is_open.load(Ordering::SeqCst) || audits == 0 {
-        match auditor.observe(audit, &[]) {
+        match auditor.observe(audit, []) {
             Ok(outcome) => assert_eq!(outcome, Outcome::Returned(ACCOUNTS as i64 * EACH)),
             Err(Error::Stale) => continue,
             Err(error) => return Err(error),
@@ -96,8 +97,7 @@ fn watch(auditor: &mut Worker, audit: u32, is_open: &AtomicBool) -> Result<u32, 
 }
 
 fn main() -> Result<(), Error> {
-    let program = bank()?;
-    let audit = program.transaction("audit").expect("it is declared");
+    let (program, audit) = bank()?;
     let store = Store::open(&program, THREADS + 1, 0)?;
     let mut auditor = store.worker()?;
     let mut tellers = Vec::new();

@@ -3,16 +3,13 @@
 use crate::error::Error;
 use crate::service::{Service, ServiceOptions};
 use crate::store::Program;
+use crate::transaction::{Callable, Transaction};
 use std::fmt::Write;
 use std::ops::{Add, Div, Mul, Rem, Sub};
 
 /// A declared variable.
 #[derive(Clone, Debug)]
 pub struct Var(String);
-
-/// A declared transaction.
-#[derive(Clone, Debug)]
-pub struct Tx(String);
 
 /// A declared table: cells, which are numbered from 0. A transaction with a number of no cell ends `Outside`.
 #[derive(Clone, Debug)]
@@ -133,9 +130,9 @@ pub fn rem(left: impl Into<Expr>, right: impl Into<Expr>) -> Expr {
 ///
 /// let mut bank = Declare::new();
 /// let accounts: Vec<_> = (0..200).map(|i| bank.var(&format!("account{i}"), i)).collect();
-/// bank.tx("audit", skip(), sum(&accounts));
+/// let audit = bank.tx("audit", skip(), sum(&accounts));
 /// let store = stm::Store::open(&bank.program()?, 1, 0)?;
-/// assert_eq!(store.worker()?.observe(0, &[]), Ok(stm::Outcome::Returned(19_900)));
+/// assert_eq!(store.worker()?.observe(audit, []), Ok(stm::Outcome::Returned(19_900)));
 /// # Ok::<(), stm::Error>(())
 /// ```
 pub fn sum<E: Into<Expr>>(parts: impl IntoIterator<Item = E>) -> Expr {
@@ -250,7 +247,7 @@ pub fn throw(value: impl Into<Expr>) -> Stmt {
 ///     ]),
 ///     var(&bob),
 /// );
-/// bank.run(&pay, 2);
+/// bank.run(pay, 2);
 /// let report = stm::run(&bank.program()?, 1)?;
 /// assert_eq!(stm::present(&report, "bob"), Some(80));
 /// assert!(report.contains("parked 1 pay\n"));
@@ -262,8 +259,7 @@ pub struct Declare {
     tables: String,
     always: String,
     txs: Vec<Declared>,
-    runs: String,
-    has_arguments: bool,
+    runs: Vec<Run>,
     // The first word that is none.
     wrong_name: Option<String>,
 }
@@ -274,6 +270,14 @@ struct Declared {
     name: String,
     parameters: Vec<String>,
     program: String,
+}
+
+/// So many tasks of the transaction with this number.
+#[derive(Clone, Debug)]
+struct Run {
+    transaction: u32,
+    times: u32,
+    arguments: Vec<i64>,
 }
 
 /// A letter, and then letters, digits and `_`.
@@ -325,8 +329,9 @@ impl Declare {
         let _ = writeln!(self.always, "(always {name} {})", cond.0);
     }
 
-    /// A transaction: a body, and a result that sees what the body wrote.
-    pub fn tx(&mut self, name: &str, body: Stmt, result: impl Into<Expr>) -> Tx {
+    /// A transaction: a body, and a result that sees what the body wrote. It may be called in each service and store of
+    /// the declarations, and of what they become later.
+    pub fn tx(&mut self, name: &str, body: Stmt, result: impl Into<Expr>) -> Transaction<0> {
         self.tx_with(name, [], |[]| (body, result))
     }
 
@@ -343,11 +348,11 @@ impl Declare {
     ///     let short = when(lt(&alice, price.clone()), throw(&alice), skip());
     ///     (seq([short, set(&alice, var(&alice) - price), set(&bob, var(&bob) + &n)]), &alice)
     /// });
-    /// bank.run_with(&pay, 1, &[60, 1]);
+    /// bank.run_with(pay, 1, [60, 1]);
     /// let bank = bank.service()?;
     /// assert_eq!(bank.value("alice"), Some((39, 1)));
-    /// assert_eq!(bank.atomically(0, &[20, 1]), Ok(18));
-    /// assert_eq!(bank.atomically(0, &[20, 1]), Err(Fault::Thrown(18)));
+    /// assert_eq!(bank.atomically(pay, [20, 1]), Ok(18));
+    /// assert_eq!(bank.atomically(pay, [20, 1]), Err(Fault::Thrown(18)));
     /// # Ok::<(), stm::Error>(())
     /// ```
     pub fn tx_with<const N: usize, R: Into<Expr>>(
@@ -355,43 +360,78 @@ impl Declare {
         name: &str,
         parameters: [&str; N],
         make: impl FnOnce([Param; N]) -> (Stmt, R),
-    ) -> Tx {
+    ) -> Transaction<N> {
         let name = self.named(name);
         let parameters = parameters.map(|parameter| self.named(parameter));
         let (body, result) = make(parameters.clone().map(Param));
         let program = format!("{} {}", body.0, result.into().0);
-        self.txs.push(Declared { name: name.clone(), parameters: parameters.to_vec(), program });
-        Tx(name)
+        let transaction = Transaction::numbered(self.txs.len() as u32);
+        self.txs.push(Declared { name, parameters: parameters.to_vec(), program });
+        transaction
     }
 
     /// So many tasks that run the transaction, which has no parameters.
-    pub fn run(&mut self, tx: &Tx, times: u32) {
-        self.run_with(tx, times, &[]);
+    ///
+    /// ```compile_fail,E0271
+    /// let mut bank = stm::Declare::new();
+    /// let same = bank.tx_with("same", ["n"], |[n]| (stm::skip(), stm::param(&n)));
+    /// bank.run(same, 1);
+    /// ```
+    pub fn run<T>(&mut self, transaction: T, times: u32)
+    where
+        T: for<'a> Callable<Arguments<'a> = [i64; 0]>,
+    {
+        self.run_with(transaction, times, []);
     }
 
-    /// So many tasks that run the transaction, each with these arguments. With another number of them than it has
-    /// parameters the program is refused (`FileFault::Name`).
-    pub fn run_with(&mut self, tx: &Tx, times: u32, arguments: &[i64]) {
-        self.has_arguments |= !arguments.is_empty();
-        let given: String = arguments.iter().map(|argument| format!(" {argument}")).collect();
-        let _ = writeln!(self.runs, "(run {} {times}{given})", tx.0);
+    /// So many tasks that run the transaction, each with these arguments. By its number, with another number of
+    /// arguments than it has parameters, the program is refused (`FileFault::Name`).
+    ///
+    /// ```
+    /// let mut bank = stm::Declare::new();
+    /// let same = bank.tx_with("same", ["n"], |[n]| (stm::skip(), stm::param(&n)));
+    /// bank.run_with(same, 1, [7]);
+    /// ```
+    ///
+    /// ```compile_fail,E0308
+    /// let mut bank = stm::Declare::new();
+    /// let same = bank.tx_with("same", ["n"], |[n]| (stm::skip(), stm::param(&n)));
+    /// bank.run_with(same, 1, [7, 8]);
+    /// ```
+    pub fn run_with<T: Callable>(&mut self, transaction: T, times: u32, arguments: T::Arguments<'_>) {
+        let arguments = arguments.as_ref().to_vec();
+        self.runs.push(Run { transaction: transaction.number(), times, arguments });
     }
 
     /// The text of a file, of form 3 where there is a table, a parameter or an argument, else of form 2; `WrongName`
-    /// where a word was to be declared that is no name.
+    /// where a word was to be declared that is no name, `UnknownTransaction` where a run's transaction is not declared
+    /// here.
     pub fn text(&self) -> Result<String, Error> {
         if let Some(word) = &self.wrong_name {
             return Err(Error::WrongName(word.clone()));
         }
         let has_parameters = self.txs.iter().any(|tx| !tx.parameters.is_empty());
-        let lists = has_parameters || self.has_arguments || !self.tables.is_empty();
+        let has_arguments = self.runs.iter().any(|run| !run.arguments.is_empty());
+        let lists = has_parameters || has_arguments || !self.tables.is_empty();
         let mut txs = String::new();
         for Declared { name, parameters, program } in &self.txs {
             let list = if lists { format!("({}) ", parameters.join(" ")) } else { String::new() };
             let _ = writeln!(txs, "(tx {name} {list}{program})");
         }
         let form = if lists { 3 } else { 2 };
-        Ok(format!("(stm {form})\n{}{}{}{txs}{}", self.vars, self.tables, self.always, self.runs))
+        let runs = self.spelled_runs()?;
+        Ok(format!("(stm {form})\n{}{}{}{txs}{runs}", self.vars, self.tables, self.always))
+    }
+
+    fn spelled_runs(&self) -> Result<String, Error> {
+        let mut runs = String::new();
+        for Run { transaction, times, arguments } in &self.runs {
+            let declared = self.txs.get(*transaction as usize);
+            let Declared { name, .. } = declared.ok_or(Error::UnknownTransaction(*transaction))?;
+            let given: String = arguments.iter().map(|argument| format!(" {argument}")).collect();
+            let _ = writeln!(runs, "(run {name} {times}{given})");
+        }
+        Ok(runs)
     }
 
     /// The program, or where and why its text is refused.
@@ -418,15 +458,13 @@ impl Declare {
     ///
     /// let mut queue = Declare::new();
     /// let length = queue.var("length", 0);
-    /// queue.tx("put", set(&length, var(&length) + 1), &length);
-    /// let get = when(stm::lt(&length, 1), retry(), set(&length, var(&length) - 1));
-    /// queue.tx("get", get, &length);
+    /// let put = queue.tx("put", set(&length, var(&length) + 1), &length);
+    /// let taken = when(stm::lt(&length, 1), retry(), set(&length, var(&length) - 1));
+    /// let get = queue.tx("get", taken, &length);
     /// let queue = queue.service()?;
-    /// let number = |name| queue.transaction(name).expect("it is declared");
-    /// let (put, get) = (number("put"), number("get"));
     /// std::thread::scope(|scope| {
-    ///     let waits = scope.spawn(|| queue.atomically(get, &[]));
-    ///     assert!(queue.atomically(put, &[]).is_ok());
+    ///     let waits = scope.spawn(|| queue.atomically(get, []));
+    ///     assert!(queue.atomically(put, []).is_ok());
     ///     assert_eq!(waits.join().unwrap(), Ok(0));
     /// });
     /// # Ok::<(), stm::Error>(())
@@ -442,10 +480,10 @@ impl Declare {
     ///
     /// let mut declare = Declare::new();
     /// let n = declare.var("n", 0);
-    /// declare.tx("inc", set(&n, var(&n) + 1), var(&n));
+    /// let inc = declare.tx("inc", set(&n, var(&n) + 1), var(&n));
     /// let service = declare.service_with(ServiceOptions::new().room(2))?;
     /// for _ in 0..5 {
-    ///     service.atomically(0, &[]).expect("it returns");
+    ///     service.atomically(inc, []).expect("it returns");
     /// }
     /// assert_eq!((service.chapter(), service.entered()), (2, 5));
     /// # Ok::<(), stm::Error>(())

@@ -25,6 +25,8 @@ pub enum Error {
     Memory,
     /// The program has no transaction of this number.
     UnknownTransaction(u32),
+    /// The program has no transaction of this name with so many parameters.
+    NoTransaction { name: String, parameters: usize },
     /// The transaction has another number of parameters than it was given arguments.
     WrongArguments { transaction: u32, parameters: usize, given: usize },
     /// The store has no such task in its present chapter: no task has this ticket, or not any more, for it was over when its
@@ -102,6 +104,9 @@ impl fmt::Display for Error {
     fn fmt(&self, out: &mut fmt::Formatter<'_>) -> fmt::Result {
         let text = match self {
             Error::UnknownTransaction(number) => return write!(out, "there is no transaction {number}"),
+            Error::NoTransaction { name, parameters } => {
+                return write!(out, "there is no transaction {name} with {parameters} parameters")
+            }
             Error::WrongArguments { transaction, parameters, given } => {
                 return wrong_arguments(out, *transaction, *parameters, *given)
             }

@@ -12,7 +12,7 @@
 //! let mut declare = Declare::new();
 //! let x = declare.var("x", 5);
 //! let inc = declare.tx("inc", set(&x, var(&x) + 1), var(&x));
-//! declare.run(&inc, 1000);
+//! declare.run(inc, 1000);
 //! let program = declare.program()?;
 //!
 //! let report = stm::run(&program, 2)?;
@@ -31,18 +31,20 @@ mod error;
 mod raw;
 mod service;
 mod store;
+mod transaction;
 
 pub use answers::{Answer, Arguments, End, Entered, Job, Outcome, Receipt, Standing, Ticket, Way};
 pub use call::Call;
 pub use declare::{
     and, div, eq, int, le, lt, not, or, or_else, param, rem, repeat, retry, seq, set, skip, sum, throw, var,
-    when, Cond, Declare, Expr, Param, Stmt, Table, Tx, Var,
+    when, Cond, Declare, Expr, Param, Stmt, Table, Var,
 };
 pub use declared::Declared;
 pub use error::{Error, Fault, FileFault, NotKept, ScheduleFault};
 pub use raw::{Counts, Part, ServiceCounts, Verdict};
 pub use service::{Receipts, Service, ServiceOptions};
 pub use store::{run, run_with, Program, RunOptions, Store, Worker};
+pub use transaction::{Callable, Transaction};
 
 /// All tasks of a file, one after another on this thread: its report. A journal of `checkpoint`
 /// entries is followed by a checkpoint; 0: never.

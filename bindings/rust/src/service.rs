@@ -5,6 +5,7 @@ use crate::call::Call;
 use crate::declared::Declared;
 use crate::error::{Error, Fault, NotKept};
 use crate::raw::{Keep, RawService, ServiceCounts};
+use crate::transaction::{Callable, Transaction};
 use std::fmt::Debug;
 use std::time::Duration;
 
@@ -128,9 +129,27 @@ impl Service {
         self.raw.declared()
     }
 
-    /// The number of a transaction.
+    /// The number of a transaction, for calls with a slice of arguments.
     pub fn transaction(&self, name: &str) -> Option<u32> {
         self.raw.transaction(name)
+    }
+
+    /// The transaction of this name, which has so many parameters: `NoTransaction` where there is no such one.
+    ///
+    /// ```
+    /// use stm::{Error, Service, Transaction};
+    ///
+    /// let bank = Service::open("(stm 3) (var here 9) (tx pay (k) (set here (sub here k)) here)")?;
+    /// let pay: Transaction<1> = bank.transaction_of("pay")?;
+    /// assert_eq!(bank.atomically(pay, [2]), Ok(7));
+    /// let error = bank.transaction_of::<2>("pay").expect_err("it has one");
+    /// assert_eq!(error, Error::NoTransaction { name: "pay".to_string(), parameters: 2 });
+    /// assert_eq!(error.to_string(), "there is no transaction pay with 2 parameters");
+    /// # Ok::<(), stm::Error>(())
+    /// ```
+    pub fn transaction_of<const N: usize>(&self, name: &str) -> Result<Transaction<N>, Error> {
+        let number = self.transaction(name);
+        Transaction::of(name, number.and_then(|number| Some((number, self.parameters(number)?))))
     }
 
     /// How many parameters a transaction has, at most 8.
@@ -141,13 +160,17 @@ impl Service {
     /// Runs the transaction as one atomic step: what it returned. It is given an argument for each of its parameters,
     /// in their order: `&[]` where it has none. Where it retries the thread waits until a commit changed what it read,
     /// and it was entered.
-    pub fn atomically(&self, transaction: u32, arguments: &[i64]) -> Result<i64, Fault> {
-        self.raw.atomically(transaction, arguments)?.returned()
+    pub fn atomically<T: Callable>(&self, transaction: T, arguments: T::Arguments<'_>) -> Result<i64, Fault> {
+        self.raw.atomically(transaction.number(), arguments.as_ref())?.returned()
     }
 
     /// As `atomically`; `Retries`, and nothing was entered, where the transaction retries on the present values.
-    pub fn try_atomically(&self, transaction: u32, arguments: &[i64]) -> Result<i64, Fault> {
-        self.raw.try_atomically(transaction, arguments)?.returned()
+    pub fn try_atomically<T: Callable>(
+        &self,
+        transaction: T,
+        arguments: T::Arguments<'_>,
+    ) -> Result<i64, Fault> {
+        self.raw.try_atomically(transaction.number(), arguments.as_ref())?.returned()
     }
 
     /// As `atomically`; `TimedOut` after the time, also where a long transaction is evaluated until then. It had no
@@ -161,10 +184,10 @@ impl Service {
     /// assert_eq!(service.atomically_within(0, &[], Duration::from_millis(1)), Err(stm::Fault::TimedOut));
     /// # Ok::<(), stm::Error>(())
     /// ```
-    pub fn atomically_within(
+    pub fn atomically_within<T: Callable>(
         &self,
-        transaction: u32,
-        arguments: &[i64],
+        transaction: T,
+        arguments: T::Arguments<'_>,
         time: Duration,
     ) -> Result<i64, Fault> {
         self.receipts().atomically_within(transaction, arguments, time)?.returned()
@@ -208,8 +231,8 @@ impl Service {
     /// assert_eq!(pays.as_mut().poll(&mut context), Poll::Ready(Ok(40)));
     /// # Ok::<(), stm::Error>(())
     /// ```
-    pub fn call(&self, transaction: u32, arguments: &[i64]) -> Call<'_> {
-        Call::new(&self.raw, transaction, arguments, Receipt::returned)
+    pub fn call<T: Callable>(&self, transaction: T, arguments: T::Arguments<'_>) -> Call<'_> {
+        Call::new(&self.raw, transaction.number(), arguments.as_ref(), Receipt::returned)
     }
 
     /// The same calls, with all that is answered: also the ticket, the chapter, the number of the entry and its place.
@@ -238,8 +261,8 @@ impl Service {
     /// assert_eq!(service.entered(), 0);
     /// # Ok::<(), stm::Error>(())
     /// ```
-    pub fn observe(&self, transaction: u32, arguments: &[i64]) -> Result<i64, Fault> {
-        self.raw.observe(transaction, arguments)
+    pub fn observe<T: Callable>(&self, transaction: T, arguments: T::Arguments<'_>) -> Result<i64, Fault> {
+        self.raw.observe(transaction.number(), arguments.as_ref())
     }
 
     /// The present value of the variable of this name, or of the cell that is written so, as `acct[5]`, and the
@@ -335,24 +358,32 @@ pub struct Receipts<'a> {
 
 impl<'a> Receipts<'a> {
     /// As `Service::atomically`.
-    pub fn atomically(self, transaction: u32, arguments: &[i64]) -> Result<Receipt, Fault> {
-        self.raw.atomically(transaction, arguments)
+    pub fn atomically<T: Callable>(
+        self,
+        transaction: T,
+        arguments: T::Arguments<'_>,
+    ) -> Result<Receipt, Fault> {
+        self.raw.atomically(transaction.number(), arguments.as_ref())
     }
 
     /// As `Service::try_atomically`.
-    pub fn try_atomically(self, transaction: u32, arguments: &[i64]) -> Result<Receipt, Fault> {
-        self.raw.try_atomically(transaction, arguments)
+    pub fn try_atomically<T: Callable>(
+        self,
+        transaction: T,
+        arguments: T::Arguments<'_>,
+    ) -> Result<Receipt, Fault> {
+        self.raw.try_atomically(transaction.number(), arguments.as_ref())
     }
 
     /// As `Service::atomically_within`.
-    pub fn atomically_within(
+    pub fn atomically_within<T: Callable>(
         self,
-        transaction: u32,
-        arguments: &[i64],
+        transaction: T,
+        arguments: T::Arguments<'_>,
         time: Duration,
     ) -> Result<Receipt, Fault> {
         let nanoseconds = u64::try_from(time.as_nanos()).unwrap_or(u64::MAX);
-        self.raw.atomically_within(transaction, arguments, nanoseconds)
+        self.raw.atomically_within(transaction.number(), arguments.as_ref(), nanoseconds)
     }
 
     /// As `Service::each`.
@@ -361,7 +392,7 @@ impl<'a> Receipts<'a> {
     }
 
     /// As `Service::call`.
-    pub fn call(self, transaction: u32, arguments: &[i64]) -> Call<'a, Receipt> {
-        Call::new(self.raw, transaction, arguments, Ok)
+    pub fn call<T: Callable>(self, transaction: T, arguments: T::Arguments<'_>) -> Call<'a, Receipt> {
+        Call::new(self.raw, transaction.number(), arguments.as_ref(), Ok)
     }
 }

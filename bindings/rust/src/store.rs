@@ -4,6 +4,7 @@ use crate::answers::{Answer, Entered, Job, Outcome, Standing, Ticket, Way};
 use crate::declared::Declared;
 use crate::error::Error;
 use crate::raw::{Counts, RawProgram, RawStore, RawWorker};
+use crate::transaction::{Callable, Transaction};
 use std::sync::{Mutex, MutexGuard, PoisonError};
 
 /// What a file declares. Threads share it by a reference, and read it at once. What it says stays in memory until
@@ -54,9 +55,15 @@ impl Program {
         self.raw.cells(table)
     }
 
-    /// The number of a transaction.
+    /// The number of a transaction, for calls with a slice of arguments.
     pub fn transaction(&self, name: &str) -> Option<u32> {
         self.raw.transaction(name)
+    }
+
+    /// As `Service::transaction_of`.
+    pub fn transaction_of<const N: usize>(&self, name: &str) -> Result<Transaction<N>, Error> {
+        let number = self.transaction(name);
+        Transaction::of(name, number.and_then(|number| Some((number, self.parameters(number)?))))
     }
 
     /// How many parameters a transaction has, at most 8.
@@ -113,8 +120,8 @@ impl Store {
 
     /// A ready task more of the transaction, which is given an argument for each of its parameters, in their order:
     /// its ticket. It takes no memory.
-    pub fn submit(&self, transaction: u32, arguments: &[i64]) -> Result<Ticket, Error> {
-        held(&self.raw).submit(transaction, arguments)
+    pub fn submit<T: Callable>(&self, transaction: T, arguments: T::Arguments<'_>) -> Result<Ticket, Error> {
+        held(&self.raw).submit(transaction.number(), arguments.as_ref())
     }
 
     /// Runs the transaction with these arguments as a task more, which has its turn at once, whatever else is ready:
@@ -147,8 +154,13 @@ impl Store {
     /// assert_eq!(store.call(0, &[], Way::Waits)?.end, End::Parked);
     /// # Ok::<(), stm::Error>(())
     /// ```
-    pub fn call(&self, transaction: u32, arguments: &[i64], way: Way) -> Result<Answer, Error> {
-        held(&self.raw).call(transaction, arguments, way)
+    pub fn call<T: Callable>(
+        &self,
+        transaction: T,
+        arguments: T::Arguments<'_>,
+        way: Way,
+    ) -> Result<Answer, Error> {
+        held(&self.raw).call(transaction.number(), arguments.as_ref(), way)
     }
 
     /// Gives the task of a job that was taken a turn on the present values: how it ended. `NotRunning` where it had one
@@ -366,8 +378,12 @@ impl Worker {
 
     /// How the transaction would end with these arguments on one state, without a lock: `Retries` where it retries,
     /// `Stale` and `Memory` as of `try_job`.
-    pub fn observe(&mut self, transaction: u32, arguments: &[i64]) -> Result<Outcome, Error> {
-        self.raw.observe(transaction, arguments)
+    pub fn observe<T: Callable>(
+        &mut self,
+        transaction: T,
+        arguments: T::Arguments<'_>,
+    ) -> Result<Outcome, Error> {
+        self.raw.observe(transaction.number(), arguments.as_ref())
     }
 }
 

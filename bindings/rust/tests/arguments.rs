@@ -20,7 +20,7 @@ fn declared() -> Declare {
     bank.tx_with("digits", ["a", "b", "c", "d", "e", "f", "g", "h"], |[a, rest @ ..]| {
         (skip(), rest.iter().fold(param(&a), |number, digit| number * 10 + digit))
     });
-    bank.run_with(&pay, 2, &[10]);
+    bank.run_with(pay, 2, [10]);
     bank
 }
 
@@ -46,7 +46,7 @@ fn the_text_is_of_form_3_where_there_are_parameters() {
     );
     let mut none = Declare::new();
     let tx = none.tx_with("t", [], |[]| (skip(), 0));
-    none.run_with(&tx, 3, &[]);
+    none.run_with(tx, 3, []);
     assert_eq!(none.text().unwrap(), "(stm 2)\n(tx t (skip) 0)\n(run t 3)\n");
     assert_eq!(none.program().map(|program| program.parameters(0)), Ok(Some(0)));
 }
@@ -75,7 +75,7 @@ fn what_is_refused() {
     for given in [&[][..], &[1, 2]] {
         let mut bank = declared();
         let pay = bank.tx_with("again", ["n"], |[n]| (skip(), param(&n)));
-        bank.run_with(&pay, 1, given);
+        bank.run_with(pay.number(), 1, given);
         // It is told where the run stands.
         let text = bank.text().unwrap();
         let last = text.lines().last().unwrap();
@@ -88,7 +88,7 @@ fn what_is_refused() {
     // Also where no transaction has parameters.
     let mut none = Declare::new();
     let tx = none.tx("t", skip(), 0);
-    none.run_with(&tx, 1, &[7]);
+    none.run_with(tx.number(), 1, &[7]);
     assert_eq!(none.text().as_deref(), Ok("(stm 3)\n(tx t () (skip) 0)\n(run t 1 7)\n"));
     let told = none.program().map(|_| ());
     assert!(matches!(told, Err(Error::Refused { fault: FileFault::Name, line: 3, column: 6, .. })));

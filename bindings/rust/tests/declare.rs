@@ -90,7 +90,7 @@ fn a_whole_text() {
         or_else(repeat(3, set(&y, var(&y) * 1)), throw(div(&x, rem(&y, 5)))),
     ]);
     let tx = all.tx("t", body, sum([&x, &x, &y]));
-    all.run(&tx, 3);
+    all.run(tx, 3);
     let text = "(stm 2)\n(var x 7)\n(var Y_2 -9223372036854775808)\n\
         (always low (and (lt x 9) (or (le Y_2 0) (not (eq x Y_2)))))\n\
         (tx t (seq (set x (sub (add x 1) 2)) (if (eq x 6) (skip) (retry)) \
@@ -112,7 +112,7 @@ fn tables() {
         let paid = [acct.put(&from, acct.at(&from) - &n), acct.put(&to, acct.at(&to) + &n)];
         (seq(paid), acct.at(var(&spare) + 1))
     });
-    bank.run_with(&pay, 1, &[0, 1, 60]);
+    bank.run_with(pay, 1, [0, 1, 60]);
     let text = "(stm 3)\n(var spare 0)\n(table acct 4 100)\n(table rate 3 5 -6 7)\n\
         (always solvent (le 0 (min acct)))\n(tx audit () (skip) (add (sum acct) (max rate)))\n\
         (tx pay (from to n) (seq (put acct from (sub (at acct from) n)) (put acct to (add (at acct to) n))) \
@@ -143,17 +143,12 @@ fn names_are_judged() {
         let mut always = Declare::new();
         always.always(word, eq(0, 0));
         let mut txs = Declare::new();
-        let tx = txs.tx(word, skip(), 0);
+        txs.tx(word, skip(), 0);
         assert_eq!([vars.text(), always.text(), txs.text()], [told.clone(), told.clone(), told]);
         // Nor is it in another program.
         let mut other = Declare::new();
-        let good = other.tx("t", set(&wrong, 1), 0);
+        other.tx("t", set(&wrong, 1), 0);
         assert_eq!(other.program().map(|_| ()).map_err(fault), Err(FileFault::Shape), "{word}");
-        let mut other = Declare::new();
-        other.tx("t", skip(), 0);
-        other.run(&tx, 1);
-        assert_eq!(other.program().map(|_| ()).map_err(fault), Err(FileFault::Shape), "{word}");
-        other.run(&good, 1);
     }
     let mut long = Declare::new();
     long.var(&"a".repeat(32), 0);
