@@ -9,7 +9,7 @@ HERE = os.path.dirname(os.path.abspath(__file__))
 WARN = ["-Wall", "-Wextra", "-Wpedantic", "-Wconversion", "-Wshadow", "-Werror"]
 COMPILERS = ("g++", "clang++")
 # The tests of stm.hpp.
-TESTS = ("service", "started", "given_up", "arguments", "tables", "refused", "each")
+TESTS = ("service", "started", "given_up", "arguments", "transactions", "tables", "refused", "each")
 # A host that looks at no answer: each of its statements, but for the first one, is warned of.
 CARELESS = b"""#include "stm.hpp"
 void careless(stm::service &bank) {
@@ -21,6 +21,8 @@ void careless(stm::service &bank) {
     bank.observe("pay");
     bank.start("pay", {5}, [](stm::outcome) {});
     bank.future("pay", {5});
+    bank.transaction<1>("pay");
+    bank.atomically(*bank.transaction<1>("pay"), 5);
     bank.cells(0);
     bank.report();
     stm::service::open("");
@@ -29,6 +31,30 @@ void careless(stm::service &bank) {
     stm::explain("");
 }
 """
+# A host of which one statement is compiled: its calls give `pay` three arguments, or else the compiler says why not.
+EXACT = """#include "stm.hpp"
+void exact(stm::service &bank, stm::transaction<3> pay, std::array<std::int64_t, 2> two, std::int64_t (&four)[4]) {
+    auto done = [](stm::outcome) {};
+    (void)two, (void)four, (void)done;
+    (void)STATEMENT;
+}
+"""
+EACH = "stm: a call gives an argument for each parameter of its transaction"
+EXACT_CALLS = {
+    "bank.atomically(pay, 3, 5, 60)": None,
+    "bank.atomically(pay, 3, 5)": EACH,
+    "bank.atomically(pay, {3, 5, 60})": None,
+    "bank.start(pay, {3, 5, 60}, done)": None,
+    "bank.atomically(pay)": EACH,
+    "bank.atomically(pay, {})": EACH,
+    "bank.try_atomically(pay, {3, 5})": EACH,
+    "bank.atomically_within(std::chrono::seconds(1), pay, 3, 5, 60, 7)": EACH,
+    "bank.observe(pay, two)": EACH,
+    "bank.future(pay, four)": EACH,
+    "bank.start(pay, {3, 5}, done)": EACH,
+    "bank.atomically(pay, 3, 5, 0.5)": "stm: an argument is an integer",
+    "bank.atomically(*bank.transaction<9>(\"all\"), 1, 2, 3, 4, 5, 6, 7, 8, 9)": "stm: a transaction has at most 8 parameters",
+}
 # How many minutes the simulations are run: many chapters.
 MINUTES = 2_000_000
 BANK = "4000 transfers, each paid or refused\nthe journals of 3 chapters are good\n"
@@ -80,6 +106,16 @@ def told_by(done):
     return (done.stdout + done.stderr).decode(errors="replace")
 
 
+def exact(case, run, word, library, most=len(EXACT_CALLS)):
+    """Calls with as many arguments as a transaction has parameters are compiled, and those with others are refused."""
+    for statement, wanted in list(EXACT_CALLS.items())[:most]:
+        host = EXACT.replace("STATEMENT", statement).encode()
+        done = run(word, "-std=c++17", *WARN, "-fsyntax-only", "-I", library, "-x", "c++", "-", input=host, timeout=400)
+        told = told_by(done)
+        good = done.returncode != 0 and wanted in told if wanted else done.returncode == 0
+        case(f"{statement} by {word}", good, told)
+
+
 def cpp(case, run, work, library):
     there = [word for word in COMPILERS if shutil.which(word)]
     for word in COMPILERS:
@@ -106,6 +142,7 @@ def cpp(case, run, work, library):
         done = run(word, "-std=c++17", *WARN, "-fsyntax-only", "-I", library, "-x", "c++", "-", input=CARELESS, timeout=400)
         told = told_by(done)
         case(f"{word} warns of answers that are not looked at", told.count("error:") == CARELESS.count(b";") - 1, told)
+        exact(case, run, word, library)
     for word in there[:1]:
         prints("bounded_queue.cpp", QUEUE, built(word, "examples/bounded_queue.cpp", "queue"))
         prints("orders.cpp", ORDERS_IN_CPP, built(word, "examples/orders.cpp", "orders"))

@@ -73,6 +73,12 @@ def hosts(case, run, work, library):
                 case(source, good, languages.told_by(done) or f"status {done.returncode}")
 
 
+def refusals(case, run, library):
+    """What a compiler of C++ says of calls with a wrong number of arguments."""
+    if shutil.which("c++"):
+        languages.exact(case, run, "c++", library, 2)
+
+
 def rust(case, run, work, library):
     if not shutil.which("cargo"):
         print("not tried: cargo is not there")
@@ -95,6 +101,7 @@ def python(case, run, library):
 
 def tried(case, run, work, library):
     hosts(case, run, work, library)
+    refusals(case, run, library)
     python(case, run, library)
     rust(case, run, work, library)
     explained.tried(case, run, work, library)

@@ -216,6 +216,54 @@ private:
     std::size_t count_, size_;
 };
 
+/// What a call gives a transaction of which it is known how many parameters it has: so many integers, or an array of as
+/// many std::int64_t. Another number of them does not compile.
+template <std::size_t Parameters> class exactly : public arguments {
+public:
+    template <class... Integers>
+    exactly(const Integers &...integers) noexcept : arguments(std::initializer_list<std::int64_t>{integers...}) {
+        static_assert((!std::is_floating_point_v<Integers> && ...), "stm: an argument is an integer");
+        check<sizeof...(Integers)>();
+    }
+    template <std::size_t Count>
+    exactly(const std::int64_t (&numbers)[Count]) noexcept : arguments(numbers, Count) {
+        check<Count>();
+    }
+    template <std::size_t Count>
+    exactly(const std::array<std::int64_t, Count> &numbers) noexcept : arguments(numbers.data(), Count) {
+        check<Count>();
+    }
+
+private:
+    template <std::size_t Count> static void check() noexcept {
+        static_assert(Parameters <= 8, "stm: a transaction has at most 8 parameters");
+        static_assert(Count == Parameters, "stm: a call gives an argument for each parameter of its transaction");
+    }
+};
+
+namespace detail {
+
+/// `exactly` so many, however they are given: the number is that of the transaction before them.
+template <std::size_t Parameters> using given_to = std::enable_if_t<true, exactly<Parameters>>;
+
+} // namespace detail
+
+/// A transaction that has so many parameters: its number, and in its type how many arguments a call gives it.
+/// `service::transaction<3>("pay")` looks it up, once; a call by it looks up nothing. It holds nothing of the service,
+/// and is good in each one of the same program. In one of another program it is what has its number there: with another
+/// number of parameters the call is refused (`STM_UNKNOWN`), with as many it is made.
+template <std::size_t Parameters> class transaction {
+public:
+    /// For a call whose arguments are counted as it is made.
+    std::uint32_t number() const noexcept { return number_; }
+
+private:
+    friend class service;
+    explicit transaction(std::uint32_t number) noexcept : number_(number) {}
+
+    std::uint32_t number_;
+};
+
 /// How a call ended. It is true where the transaction returned.
 class [[nodiscard]] outcome {
 public:
@@ -450,6 +498,15 @@ public:
     std::optional<std::uint32_t> transaction(std::string_view name) const noexcept {
         return counted<std::uint32_t>(stm_service_transaction, name.data(), name.size());
     }
+    /// The transaction of this name, which has so many parameters; `STM_UNKNOWN` where there is no such one. A call by
+    /// it takes as many integers, `atomically(pay, 3, 5, 60)`, and compiles with no other number of them.
+    template <std::size_t Parameters>
+    answer<stm::transaction<Parameters>> transaction(std::string_view name) const {
+        using found = answer<stm::transaction<Parameters>>;
+        auto number = transaction(name);
+        if (!number || parameters(*number) != Parameters) return found::none(held_ ? STM_UNKNOWN : STM_EMPTY);
+        return found(stm::transaction<Parameters>(*number));
+    }
 
     /// How many parameters a transaction has, at most 8.
     std::optional<std::size_t> parameters(std::uint32_t transaction) const noexcept {
@@ -464,6 +521,14 @@ public:
     outcome atomically(std::string_view name, arguments given = {}) noexcept {
         return by_name(name, [&](std::uint32_t number) { return atomically(number, given); });
     }
+    template <std::size_t Parameters>
+    outcome atomically(stm::transaction<Parameters> of, detail::given_to<Parameters> given) noexcept {
+        return atomically(of.number(), given);
+    }
+    template <std::size_t Parameters, class... Integers>
+    outcome atomically(stm::transaction<Parameters> of, const Integers &...integers) noexcept {
+        return atomically(of.number(), exactly<Parameters>(integers...));
+    }
 
     /// As `atomically`, but `STM_RETRIES`, and nothing entered, where the transaction retries on the present values.
     outcome try_atomically(std::uint32_t transaction, arguments given = {}) noexcept {
@@ -472,6 +537,14 @@ public:
     }
     outcome try_atomically(std::string_view name, arguments given = {}) noexcept {
         return by_name(name, [&](std::uint32_t number) { return try_atomically(number, given); });
+    }
+    template <std::size_t Parameters>
+    outcome try_atomically(stm::transaction<Parameters> of, detail::given_to<Parameters> given) noexcept {
+        return try_atomically(of.number(), given);
+    }
+    template <std::size_t Parameters, class... Integers>
+    outcome try_atomically(stm::transaction<Parameters> of, const Integers &...integers) noexcept {
+        return try_atomically(of.number(), exactly<Parameters>(integers...));
     }
 
     /// As `atomically`, but `STM_TIMED_OUT` where it still waits when the time is up, for a commit or for the keeper in
@@ -487,6 +560,16 @@ public:
     outcome atomically_within(std::chrono::duration<Rep, Period> time, std::string_view name,
                               arguments given = {}) noexcept {
         return by_name(name, [&](std::uint32_t number) { return atomically_within(time, number, given); });
+    }
+    template <class Rep, class Period, std::size_t Parameters>
+    outcome atomically_within(std::chrono::duration<Rep, Period> time, stm::transaction<Parameters> of,
+                              detail::given_to<Parameters> given) noexcept {
+        return atomically_within(time, of.number(), given);
+    }
+    template <class Rep, class Period, std::size_t Parameters, class... Integers>
+    outcome atomically_within(std::chrono::duration<Rep, Period> time, stm::transaction<Parameters> of,
+                              const Integers &...integers) noexcept {
+        return atomically_within(time, of.number(), exactly<Parameters>(integers...));
     }
 
     /// Makes a call for each row, in their order, each a step of its own, as `try_atomically` does: for who makes many.
@@ -522,6 +605,10 @@ public:
         if (!number) return answer<started>::none(held_ ? STM_UNKNOWN : STM_EMPTY);
         return start(*number, given, std::move(done));
     }
+    template <std::size_t Parameters, class Done>
+    answer<started> start(stm::transaction<Parameters> of, detail::given_to<Parameters> given, Done done) {
+        return start(of.number(), given, std::move(done));
+    }
 
     /// Starts the call, whose outcome the future has once it has ended: also where nothing was started.
     [[nodiscard]] std::future<outcome> future(std::uint32_t transaction, arguments given = {}) {
@@ -535,6 +622,14 @@ public:
         auto number = transaction(name);
         return number ? future(*number, given) : ready(held_ ? STM_UNKNOWN : STM_EMPTY);
     }
+    template <std::size_t Parameters>
+    [[nodiscard]] std::future<outcome> future(stm::transaction<Parameters> of, detail::given_to<Parameters> given) {
+        return future(of.number(), given);
+    }
+    template <std::size_t Parameters, class... Integers>
+    [[nodiscard]] std::future<outcome> future(stm::transaction<Parameters> of, const Integers &...integers) {
+        return future(of.number(), exactly<Parameters>(integers...));
+    }
 
     /// How the call would end on one state, beside the commits; nothing is entered.
     outcome observe(std::uint32_t transaction, arguments given = {}) const noexcept {
@@ -543,6 +638,14 @@ public:
     }
     outcome observe(std::string_view name, arguments given = {}) const noexcept {
         return by_name(name, [&](std::uint32_t number) { return observe(number, given); });
+    }
+    template <std::size_t Parameters>
+    outcome observe(stm::transaction<Parameters> of, detail::given_to<Parameters> given) const noexcept {
+        return observe(of.number(), given);
+    }
+    template <std::size_t Parameters, class... Integers>
+    outcome observe(stm::transaction<Parameters> of, const Integers &...integers) const noexcept {
+        return observe(of.number(), exactly<Parameters>(integers...));
     }
 
     /// The present value of the variable of this name, or of the cell that is written so, as "acct[5]".

@@ -30,14 +30,16 @@ static void holds(bool so, const char *what) {
 }
 
 static void produce(stm::service &queue, std::int64_t first) {
-    for (std::int64_t order = first; order < first + EACH; order++) queue.atomically("put", {order}).value();
+    const auto put = queue.transaction<1>("put").value();
+    for (std::int64_t order = first; order < first + EACH; order++) queue.atomically(put, order).value();
 }
 
 /// What it takes, of each producer: its orders grow.
 static void consume(stm::service &queue, std::vector<bool> &taken) {
+    const auto get = queue.transaction<0>("get").value();
     std::vector<std::int64_t> last(PRODUCERS, -1);
     for (int i = 0; i < EACH; i++) {
-        std::int64_t order = queue.atomically("get").value();
+        std::int64_t order = queue.atomically(get).value();
         std::int64_t &before = last[static_cast<std::size_t>(order / EACH)];
         holds(order > before, "orders are taken as they were put");
         before = order;

@@ -54,7 +54,7 @@ static long resident() {
 
 /// So many minutes, by two threads: a minute is a minute, whoever has it done.
 static void run(stm::service &service, long minutes) {
-    const std::uint32_t minute = service.transaction("minute").value();
+    const auto minute = service.transaction<0>("minute").value();
     auto half = [&] {
         for (long i = 0; i < minutes / 2; i++) service.atomically(minute).value();
     };

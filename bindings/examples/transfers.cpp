@@ -27,9 +27,9 @@ static void holds(bool so, const char *what) {
 
 /// Each transfer is paid, or throws what is missing.
 static void teller(stm::service &bank, std::int64_t first) {
-    auto pay = bank.transaction("pay").value();
+    const auto pay = bank.transaction<3>("pay").value();
     for (std::int64_t turn = first; turn < first + TRANSFERS; turn++) {
-        stm::outcome left = bank.atomically(pay, {turn * 7 % ACCOUNTS, turn * 13 % ACCOUNTS, turn % 150});
+        stm::outcome left = bank.atomically(pay, turn * 7 % ACCOUNTS, turn * 13 % ACCOUNTS, turn % 150);
         holds(left || left.thrown() > 0, "paid or refused");
     }
 }
