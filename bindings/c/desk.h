@@ -15,6 +15,8 @@
 extern "C" {
 #endif
 
+/* ---- Desks and calls on them ---- */
+
 typedef struct stm_desk { void *at; } stm_desk;
 /* A chapter that ended, for its host to keep. */
 typedef struct stm_ended { void *at; } stm_ended;
@@ -76,6 +78,8 @@ int32_t stm_desk_leave(stm_desk *desk, int64_t ticket);
 /* Each call that waits is given up and told STM_CLOSED, and nothing is entered from now on. */
 int32_t stm_desk_close(stm_desk *desk);
 
+/* ---- Chapters of a desk ---- */
+
 /* The present chapter ends: what is long and runs has its turn, `out` has the chapter's file and report, to keep them, and
  * the next chapter begins, in which who waits waits on. Say then how it went (`stm_desk_kept`, `stm_desk_not_kept`).
  * STM_NOT_ENDED: that was not said yet of the one before. STM_MEMORY: the chapter goes on, or is given again. STM_FULL. A
@@ -99,6 +103,8 @@ uint64_t stm_ended_chapter(stm_ended *ended);
 int32_t stm_ended_file(stm_ended *ended, char *room, size_t room_length, size_t *wanted);
 int32_t stm_ended_report(stm_ended *ended, char *room, size_t room_length, size_t *wanted);
 
+/* ---- What is seen of a desk ---- */
+
 /* What is seen of a desk is as of a store. */
 int32_t stm_desk_value(stm_desk *desk, const char *name, size_t name_length, int64_t *value, uint64_t *version);
 int32_t stm_desk_cell(stm_desk *desk, uint32_t table, uint32_t index, int64_t *value, uint64_t *version);
@@ -111,6 +117,8 @@ uint64_t stm_desk_entered(stm_desk *desk);
 /* Report and file of the present chapter, as of a store, once what is long and runs has had its turn. */
 int32_t stm_desk_report(stm_desk *desk, char *room, size_t room_length, size_t *wanted);
 int32_t stm_desk_file(stm_desk *desk, char *room, size_t room_length, size_t *wanted);
+
+/* ---- Letting a desk go ---- */
 
 /* Let go, and leave the handle empty. An empty one stays so. */
 void stm_desk_free(stm_desk *desk);

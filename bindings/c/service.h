@@ -35,6 +35,8 @@ extern "C" {
 
 typedef struct stm_service stm_service;
 
+/* ---- Opening a service ---- */
+
 typedef struct stm_service_options {
     /* How many tasks a chapter has room for beside the file's own; 0: as many as there can be, which are 65536 in all;
      * with `ended` so many that the file of the chapter is never too long. */
@@ -87,6 +89,8 @@ const stm_program *stm_service_program(const stm_service *service);
 /* The number of the transaction of this name, or STM_UNKNOWN; and how many parameters it has, or STM_UNKNOWN. */
 int64_t stm_service_transaction(const stm_service *service, const char *name, size_t name_length);
 int64_t stm_service_parameters(const stm_service *service, uint32_t transaction);
+
+/* ---- Calls ---- */
 
 /* Runs the transaction as one atomic step; where it retries, the thread waits until it was entered. It is given a
  * number for each of its parameters, in their order, which the host leaves as they are until the call ends: `NULL, 0`
@@ -224,6 +228,8 @@ int32_t stm_told_chapter(stm_service *service, stm_ended *chapter, uint64_t nano
 int32_t stm_chapter_kept(stm_service *service, stm_ended *chapter);
 int32_t stm_chapter_not_kept(stm_service *service, stm_ended *chapter);
 
+/* ---- What is seen of a service ---- */
+
 /* How the call would end on one state: an outcome with no task and no entry, STM_RETRIES, STM_CLOSED, STM_MEMORY or
  * STM_UNKNOWN. Where a worker is idle (`observers`) it takes no lock, unless others changed what it read in 8 tries. */
 stm_answer stm_service_observe(stm_service *service, uint32_t transaction, const int64_t *arguments, size_t count);
@@ -263,6 +269,8 @@ void stm_service_get_counts(stm_service *service, stm_service_counts *out);
  * pair, which `stm_check` finds good. */
 int32_t stm_service_report(stm_service *service, char *room, size_t room_length, size_t *wanted);
 int32_t stm_service_file(stm_service *service, char *room, size_t room_length, size_t *wanted);
+
+/* ---- Closing a service ---- */
 
 /* Each call that waits and each later one answers STM_CLOSED, and no transaction is entered any more: one that is
  * evaluated just then is given up. The calls from `stm_service_value` to `stm_service_file` go on. It comes back when

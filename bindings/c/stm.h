@@ -32,6 +32,8 @@
 extern "C" {
 #endif
 
+/* ---- Codes and answers ---- */
+
 /* What the calls answer: 0 or more where they did what they are for, else why not. */
 enum stm_code {
     /* Done: the attempt ended, the transaction returned, the task is done, the report is good. */
@@ -158,7 +160,9 @@ typedef struct stm_counts {
 /* A code's word, which is ASCII, ends in a 0 and stays: "unknown code" where there is no such code. */
 const char *stm_word(int32_t code);
 
-/* Whole files. `wanted` is how long the text is; with STM_SHORT, how long the room has to be; 0 with any other
+/* ---- Whole files ----
+ *
+ * `wanted` is how long the text is; with STM_SHORT, how long the room has to be; 0 with any other
  * answer, for there is no text. The room is written only where there is one. No report is longer than 8388608
  * bytes, and 160 more for each cell of the file's tables. */
 
@@ -199,6 +203,8 @@ int32_t stm_explore(const char *file, size_t file_length, uint32_t states, char 
  * them, by as few turns as any order has to it: STM_DONE, STM_MORE, STM_NO_END. */
 int32_t stm_explore_to(const char *file, size_t file_length, uint32_t states, size_t end, char *room,
                        size_t room_length, size_t *wanted);
+
+/* ---- Programs ---- */
 
 /* Handles. Each is one pointer that only the library reads; `{0}` is an empty one. Each call answers
  * STM_EMPTY for an empty one, and what it is given to fill has to be empty: STM_FULL. */
@@ -247,6 +253,8 @@ int64_t stm_program_parameters(const stm_program *program, uint32_t transaction)
  * copies a byte for each into the room, in their order, 1 for a long one and 0 for another. STM_SHORT, STM_MEMORY. */
 int32_t stm_program_long(const stm_program *program, uint8_t *room, size_t room_length, size_t *wanted);
 
+/* ---- Stores and their tasks ---- */
+
 /* Opens a store of the program for at most 32 workers. `checkpoint` is as for `stm_run_one`. */
 int32_t stm_open(const stm_program *program, size_t workers, uint32_t checkpoint, stm_store *out);
 
@@ -273,6 +281,8 @@ size_t stm_store_tasks(stm_store *store);
 /* How many tasks of the chapter stand how. Under the lock. */
 int32_t stm_get_counts(stm_store *store, stm_counts *out);
 
+/* ---- What is seen of a store ---- */
+
 /* The present value of the variable of this name, or of the cell that is written so, as `acct[5]`, and the number of the
  * last entry that changed it, 0 where none did: STM_DONE, and both were written; STM_UNKNOWN. Under the lock. */
 int32_t stm_value(stm_store *store, const char *name, size_t name_length, int64_t *value, uint64_t *version);
@@ -284,6 +294,8 @@ int32_t stm_cell(stm_store *store, uint32_t table, uint32_t index, int64_t *valu
  * many as there are and it has room for. How many; 0 from the table's end on; STM_UNKNOWN where there is no such table,
  * with nothing written. Under the lock. */
 int64_t stm_cells(stm_store *store, uint32_t table, uint32_t from, int64_t *values, size_t count);
+
+/* ---- Jobs and workers ---- */
 
 /* A worker of the store, for one thread; STM_NO_WORKER where all were opened, or there is no transaction.
  * Where it answers STM_MEMORY, the store can make one worker less. Under the lock. */
@@ -305,6 +317,8 @@ int32_t stm_try_job(stm_worker *worker, stm_job job);
  * changed: STM_STALE, STM_NOT_RUNNING, STM_NOT_ENDED, STM_GONE, STM_OTHER_PROGRAM. The worker may be of any store: where
  * its program says otherwise the attempt is refused. Its time grows with the transaction. */
 stm_answer stm_bring(stm_store *store, stm_worker *worker);
+
+/* ---- Turns and calls ---- */
 
 /* An attempt to lend to the calls below: STM_NO_WORKER where there is no transaction. It is no worker of the
  * store, and may be lent to any. Under the lock. */
@@ -336,6 +350,8 @@ stm_answer stm_standing(stm_store *store, int64_t ticket);
  * so who wants an outcome asks before. Under the lock. */
 stm_answer stm_outcome(stm_store *store, int64_t ticket);
 
+/* ---- Chapters and reports ---- */
+
 /* A new chapter begins where the present one is: the tasks that are ready, running or parked come over with
  * their tickets, in their order, and are numbered anew. One that was running is ready, and a job of it that was
  * taken before is refused (STM_GONE); one that was parked waits as it did. The journal is empty, and
@@ -365,6 +381,8 @@ int32_t stm_file(stm_store *store, char *room, size_t room_length, size_t *wante
 /* How the call would end on one state, with no lock: STM_DONE with the value that it returns, STM_RETRIES,
  * STM_STALE, STM_THROWN .. STM_BROKEN, STM_OUTSIDE, STM_MEMORY, STM_UNKNOWN. There is no task. */
 stm_answer stm_observe(stm_worker *worker, uint32_t transaction, const int64_t *arguments, size_t count);
+
+/* ---- Letting go ---- */
 
 /* Let go, and leave the handle empty. An empty one stays so. */
 void stm_program_free(stm_program *program);

@@ -221,7 +221,8 @@ private:
 template <std::size_t Parameters> class exactly : public arguments {
 public:
     template <class... Integers>
-    exactly(const Integers &...integers) noexcept : arguments(std::initializer_list<std::int64_t>{integers...}) {
+    exactly(const Integers &...integers) noexcept
+        : arguments(std::array<std::int64_t, sizeof...(Integers) + 1>{{integers..., 0}}.data(), sizeof...(Integers)) {
         static_assert((!std::is_floating_point_v<Integers> && ...), "stm: an argument is an integer");
         check<sizeof...(Integers)>();
     }
