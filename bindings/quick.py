@@ -5,6 +5,7 @@ import os
 import shutil
 import sys
 
+import documented
 import explained
 import languages
 
@@ -86,6 +87,7 @@ def rust(case, run, work, library):
     there = dict(os.environ, STM_LIB_DIR=library, CARGO_TARGET_DIR=f"{work}/target", CARGO_NET_OFFLINE="true")
     done = run("cargo", "test", "-q", "--locked", "--tests", cwd=f"{HERE}/rust", env=there, timeout=400)
     case("cargo test", done.returncode == 0, languages.told_by(done))
+    documented.rust(case, run, there, timeout=400)
     done = run("cargo", "run", "-q", "--locked", "--example", "tellers", cwd=f"{HERE}/rust", env=there, timeout=400)
     case("tellers.rs", done.stdout.decode() == languages.IN_RUST["tellers"], languages.told_by(done))
 

@@ -57,7 +57,7 @@ class Fault(Error):
 
 
 class Thrown(Fault):
-    """The transaction threw a value."""
+    """The transaction threw `value`."""
 
     def __init__(self, value: int, *, ticket: int = -1, chapter: int = 0, entry: int = 0, place: int = 0) -> None:
         super().__init__(value, ticket=ticket, chapter=chapter, entry=entry, place=place)
@@ -77,7 +77,7 @@ class Outside(Fault, IndexError):
 
 
 class Broken(Fault):
-    """It would have broken the standing condition of this name."""
+    """It would have broken the standing condition whose name is `condition`."""
 
     def __init__(self, condition: str, *, ticket: int = -1, chapter: int = 0, entry: int = 0, place: int = 0) -> None:
         super().__init__(condition, ticket=ticket, chapter=chapter, entry=entry, place=place)

@@ -87,12 +87,14 @@ class Verdict(enum.Enum):
 
 def run(file: str, checkpoint: int = 0) -> str:
     """The report of all tasks of the file, one after another. A journal of `checkpoint` entries is followed by a
-    checkpoint; 0: never."""
+    checkpoint; 0: never. Raises `Refused` where the file is refused; `OutOfMemory`; `ValueError` where `checkpoint` is
+    below 0 or too large."""
     return _text(library.stm_run_one, file, bounded(checkpoint, 32))
 
 
 def explain(file: str) -> Optional[Refused]:
-    """Where and why the file is refused, or None where it is read. What each call that reads a file raises."""
+    """Where and why the file is refused, or None where it is read. What each call that reads a file raises. Raises
+    `OutOfMemory`."""
     told = _declared.Explained()
     code, text = copied(library.stm_explain, *taken(file), ctypes.byref(told))
     if code != _declared.DONE:
@@ -101,7 +103,7 @@ def explain(file: str) -> Optional[Refused]:
 
 
 def check(file: str, report: str) -> Verdict:
-    """Whether the report is lawful for the file."""
+    """Whether the report is lawful for the file. Raises `Refused` where the file is refused; `OutOfMemory`."""
     code: int = library.stm_check(*taken(file), *taken(report))
     if code < 0:
         raise refused(code, file)
@@ -109,17 +111,21 @@ def check(file: str, report: str) -> Verdict:
 
 
 def world(file: str, schedule: str) -> str:
-    """What is seen of the schedule on the stepped world of the file."""
+    """What is seen of the schedule on the stepped world of the file. Raises `Refused` where one of the two is refused;
+    `OutOfMemory`."""
     return _text(library.stm_world, file, *taken(schedule))
 
 
 def explore(file: str, states: int = 1_000_000) -> str:
-    """What is found when every order of the file's tasks is seen, of at most so many states: else `MoreStates`."""
+    """What is found when every order of the file's tasks is seen, of at most so many states. Raises `MoreStates` where
+    more are reached; `Refused` where the file is refused, or the number of states; `OutOfMemory`; `ValueError` where
+    that number is below 0 or too large."""
     return _text(library.stm_explore, file, bounded(states, 32))
 
 
 def explore_to(file: str, end: int, states: int = 1_000_000) -> str:
-    """The report of a run that comes to the end of this number, counted from 1 as `explore` lists them: or `NoEnd`."""
+    """The report of a run that comes to the end of this number, counted from 1 as `explore` lists them. Raises `NoEnd`
+    where there is none, and what `explore` does."""
     return _text(library.stm_explore_to, file, bounded(states, 32), bounded(end, 64))
 
 

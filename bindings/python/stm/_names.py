@@ -10,14 +10,14 @@ from ._library import library
 
 
 class Declared(NamedTuple):
-    """What a program declares, each kind in the order of its text."""
+    """What a program declares, each kind in the order of its text.
+
+    `variables`: their names. `tables`: how many cells each has. `conditions`: the names of the standing conditions.
+    `transactions`: the names of each one's parameters."""
 
     variables: List[str]
-    # How many cells each has.
     tables: Dict[str, int]
-    # The standing conditions.
     conditions: List[str]
-    # The names of each one's parameters.
     transactions: Dict[str, List[str]]
 
 

@@ -58,18 +58,18 @@ _ARGUMENTS = _declared.Request.arguments.offset
 
 
 class Counts(NamedTuple):
-    """Counts of a service, all of one moment."""
+    """Counts of a service, all of one moment.
 
-    # The entries in all chapters, and the number of the chapter, from 0 on.
+    `entered`: the entries in all chapters. `chapter`: its number, from 0 on. `waiting`: the calls that wait for what
+    others commit, or whose long transaction is evaluated. `woken`: how often one that waited was entered. `stale`: how
+    often what a long transaction had read was changed meanwhile, so that it was evaluated once more. `room`: how many
+    tasks more the chapter has room for."""
+
     entered: int
     chapter: int
-    # The calls that wait for what others commit, or whose long transaction is evaluated.
     waiting: int
-    # How often one that waited was entered.
     woken: int
-    # How often what a long transaction had read was changed meanwhile, so that it was evaluated once more.
     stale: int
-    # How many tasks more the chapter has room for.
     room: int
 
 
@@ -116,8 +116,10 @@ class Service:
     call that finds it so, which raises `NoRoom` from its error; and by `close`, once each time. What is no `Exception`, as a
     `SystemExit`, and a `MemoryError` is raised itself too, by the next call of any thread before that does anything, or
     by `close`. The last chapter does not end: ask for its file and report once the service is closed. A program that
-    ends waits until each chapter that ended was told once. `Refused` where the file is refused, or there can't be so
-    much room or so many observers.
+    ends waits until each chapter that ended was told once.
+
+    Raises `Refused` where the file is refused, or there can't be so much room or so many observers; `OutOfMemory`;
+    `ValueError` where a number is below 0 or too large.
 
     In a child that `os.fork` has made, a service of the parent is not called; to close it or to leave its `with` does
     nothing there.
@@ -166,7 +168,12 @@ class Service:
     ) -> int:
         """Runs the transaction as one atomic step: what it returned; else a `Fault`. Where it retries the thread waits
         until a commit changed what it read, and it was entered; with a timeout, in seconds, at most so long, and then
-        `TimedOut`, also where it waits for `on_chapter`. A timeout of 0 is a try."""
+        `TimedOut`, also where it waits for `on_chapter`. A timeout of 0 is a try.
+
+        Raises, where it was entered and did not return, `Thrown`, `Overflow`, `DivideByZero`, `Broken` or `Outside`;
+        where it was not entered, `Closed`, `NoRoom`, `OutOfMemory` or `TimedOut`; where it is no such call, `Unknown` or
+        `WrongArguments`, and `ValueError` or `TypeError` where an argument is no number of 64 signed bits. Also what
+        stopped `on_chapter`."""
         found, room = self._call(transaction, arguments)
         if timeout is not None:
             # What is no number is no time.
@@ -178,7 +185,9 @@ class Service:
         return self._returned(self._asked(room, timeout), room)
 
     def try_atomically(self, transaction: str, arguments: Sequence[int] = ()) -> int:
-        """As `atomically`, but `Retries`, and nothing entered, where the transaction retries on the present values."""
+        """As `atomically`, but `Retries`, and nothing entered, where the transaction retries on the present values.
+
+        Raises `Retries`, and what `atomically` does but `TimedOut`."""
         found, room = self._call(transaction, arguments, _declared.TRIES)
         if self._keeper is not None and self._waits_here():
             return self._returned(self._asked(room, None), room)
@@ -222,7 +231,9 @@ class Service:
 
     async def call(self, transaction: str, arguments: Sequence[int] = ()) -> int:
         """As `atomically`, awaited under asyncio: no thread waits for it, and any number of them may wait in one. To
-        cancel it is to give it up, so `asyncio.wait_for` limits its time; what was entered before stays entered."""
+        cancel it is to give it up, so `asyncio.wait_for` limits its time; what was entered before stays entered.
+
+        Raises what `atomically` does but `TimedOut`."""
         if self._stops:
             self._stop()
         found = self._found.get(transaction) or self._transaction(transaction)
@@ -262,20 +273,24 @@ class Service:
         return await self._teller.told(room) if code == _declared.RUNNING else room.answer
 
     def observe(self, transaction: str, arguments: Sequence[int] = ()) -> int:
-        """What the transaction would return on one state; nothing is entered."""
+        """What the transaction would return on one state; nothing is entered.
+
+        Raises, where it would not return, `Thrown`, `Overflow`, `DivideByZero`, `Broken`, `Outside` or `Retries`; else
+        `Closed` or `OutOfMemory`; and where it is no such call, as `atomically` does."""
         found, room = self._call(transaction, arguments)
         return self._returned(library.stm_service_observe(*self._given(found, room)), room)
 
     def parameters(self, transaction: str) -> int:
-        """How many parameters a transaction has, at most 8."""
+        """How many parameters a transaction has, at most 8. Raises `Unknown`."""
         return self._transaction(transaction).parameters
 
     def value(self, name: str) -> int:
-        """The present value of a variable, or of a cell, as "acct[5]"."""
+        """The present value of a variable, or of a cell, as "acct[5]". Raises `Unknown`."""
         return self._present(name)[0]
 
     def version(self, name: str) -> int:
-        """The number of the last entry of the chapter that changed a variable or cell, 0 where none did."""
+        """The number of the last entry of the chapter that changed a variable or cell, 0 where none did. Raises
+        `Unknown`."""
         return self._present(name)[1]
 
     @property
@@ -289,7 +304,7 @@ class Service:
         return declared_by(self._program())
 
     def table(self, name: str) -> Table:
-        """The cells of a table, as a list that is only read: `bank.table("acct")[5]`."""
+        """The cells of a table, as a list that is only read: `bank.table("acct")[5]`. Raises `Unknown`."""
         number = int(library.stm_service_table(self._at, *taken(name)))
         if number < 0:
             raise Unknown(name)
@@ -313,17 +328,18 @@ class Service:
         return Counts(told.entered, told.chapter, told.waiting, told.woken, told.stale, told.room)
 
     def report(self) -> str:
-        """The report of the present chapter."""
+        """The report of the present chapter. Raises `OutOfMemory`."""
         return self._copied(library.stm_service_report)
 
     def file(self) -> str:
         """The file of the present chapter as it has become. Once the service is closed, file and report are a pair that
-        `check` finds good."""
+        `check` finds good. Raises `Refused` where it has become too long; `OutOfMemory`."""
         return self._copied(library.stm_service_file)
 
     def close(self) -> None:
         """Every call that waits and every later one raises `Closed`. What was entered stays. It waits until
-        `on_chapter` was called with each chapter that ended, and once more with one that it did not keep."""
+        `on_chapter` was called with each chapter that ended, and once more with one that it did not keep. Raises what
+        stopped `on_chapter`."""
         library.stm_service_close(self._at)
         if self._keeper is not None:
             self._keeper.close()

@@ -12,7 +12,7 @@ from ._library import library
 class Table(Sequence[int]):
     """The present values of a service's table, as a list that is only read: `acct[5]`, `acct[10:20]`, `len(acct)`,
     `sum(acct)`. The values of a slice, and of a table that is gone through, by `reversed`, `in`, `index` and `count`
-    too, are all of one state. `Outside` where there is no such cell."""
+    too, are all of one state. `name` is the table's. Raises `Outside` where there is no such cell."""
 
     def __init__(self, asks: Callable[..., int], name: str, number: int) -> None:
         # It is a service's, which stays for as long as its table.
@@ -42,11 +42,11 @@ class Table(Sequence[int]):
         return iter(self[::-1])
 
     def index(self, value: Any, *bounds: int) -> int:
-        """The number of the first cell that has this value, as a list's; `ValueError` where none has it."""
+        """The number of the first cell that has this value, as a list's. Raises `ValueError` where none has it."""
         return self[:].index(value, *bounds)
 
     def version(self, index: int) -> int:
-        """The number of the last entry of the chapter that changed a cell, 0 where none did."""
+        """The number of the last entry of the chapter that changed a cell, 0 where none did. Raises `Outside`."""
         return self._present(index)[1]
 
     def _present(self, index: int) -> tuple[int, int]:

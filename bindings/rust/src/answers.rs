@@ -53,16 +53,22 @@ pub struct Job {
     pub chapter: u64,
     /// The task's number in that chapter.
     pub task: u32,
+    /// The number of the transaction that it calls.
     pub transaction: u32,
+    /// What the call gives it.
     pub arguments: Arguments,
 }
 
 /// How a transaction ended.
 #[derive(Clone, Copy, Debug, PartialEq, Eq)]
 pub enum Outcome {
+    /// It returned this value.
     Returned(i64),
+    /// It threw this value.
     Thrown(i64),
+    /// A result was outside 64 bits.
     Overflow,
+    /// It divided by 0.
     DivideByZero,
     /// It would have broken the standing condition of this number.
     Broken(u32),
@@ -72,6 +78,11 @@ pub enum Outcome {
 
 impl Outcome {
     /// What was returned; else the fault that says how it ended.
+    ///
+    /// # Errors
+    ///
+    /// It did not return: [`Fault::Thrown`], [`Fault::Overflow`], [`Fault::DivideByZero`], [`Fault::Broken`],
+    /// [`Fault::Outside`].
     pub fn returned(self) -> Result<i64, Fault> {
         match self {
             Outcome::Returned(value) => Ok(value),
@@ -87,24 +98,33 @@ impl Outcome {
 /// The entry of a task: its number in the chapter, and how the transaction ended.
 #[derive(Clone, Copy, Debug, PartialEq, Eq)]
 pub struct Entered {
+    /// From 1 on.
     pub number: u64,
+    /// How the transaction ended.
     pub outcome: Outcome,
 }
 
-/// A call of a service that was entered: its ticket, which no other call has; the chapter in which it was entered, from
-/// 0 on, and the number of its entry there, from 1 on, by which it is found in the reports; the place of the entry in
-/// the history of all that became of calls, from 0 on, by which calls are put in order; and how the transaction ended.
+/// A call of a service that was entered.
 #[derive(Clone, Copy, Debug, PartialEq, Eq)]
 pub struct Receipt {
+    /// The number of its task, which no other call has.
     pub ticket: Ticket,
+    /// The chapter in which it was entered, from 0 on.
     pub chapter: u64,
+    /// The number of its entry there, from 1 on, by which it is found in the reports.
     pub entry: u64,
+    /// The place of the entry in the history of all that became of calls, from 0 on, by which calls are put in order.
     pub place: u64,
+    /// How the transaction ended.
     pub outcome: Outcome,
 }
 
 impl Receipt {
     /// What was returned; else the fault that says how it ended.
+    ///
+    /// # Errors
+    ///
+    /// As of [`Outcome::returned`].
     pub fn returned(self) -> Result<i64, Fault> {
         self.outcome.returned()
     }
@@ -121,11 +141,14 @@ pub enum End {
     Abandoned,
 }
 
-/// What became of a task: which one, in which chapter, from 0 on, and how its turn ended.
+/// What became of a task.
 #[derive(Clone, Copy, Debug, PartialEq, Eq)]
 pub struct Answer {
+    /// Which task it is, through all chapters.
     pub ticket: Ticket,
+    /// The chapter in which it had its turn, from 0 on.
     pub chapter: u64,
+    /// How its turn ended.
     pub end: End,
 }
 

@@ -406,6 +406,11 @@ impl Declare {
     /// The text of a file, of form 3 where there is a table, a parameter or an argument, else of form 2; `WrongName`
     /// where a word was to be declared that is no name, `UnknownTransaction` where a run's transaction is not declared
     /// here.
+    ///
+    /// # Errors
+    ///
+    /// [`Error::WrongName`]: a word was to be declared that is no name. [`Error::UnknownTransaction`]: a run's
+    /// transaction is not declared here.
     pub fn text(&self) -> Result<String, Error> {
         if let Some(word) = &self.wrong_name {
             return Err(Error::WrongName(word.clone()));
@@ -447,6 +452,10 @@ impl Declare {
     /// assert_eq!(one.text()?.lines().nth(2), Some("(tx copy (set x y) x)"));
     /// # Ok::<(), stm::Error>(())
     /// ```
+    ///
+    /// # Errors
+    ///
+    /// As of [`Declare::text`], and of [`Program::read`].
     pub fn program(&self) -> Result<Program, Error> {
         Program::read(&self.text()?)
     }
@@ -469,6 +478,10 @@ impl Declare {
     /// });
     /// # Ok::<(), stm::Error>(())
     /// ```
+    ///
+    /// # Errors
+    ///
+    /// As of [`Declare::text`], and of [`Service::open`].
     pub fn service(&self) -> Result<Service, Error> {
         Service::open(&self.text()?)
     }
@@ -488,6 +501,10 @@ impl Declare {
     /// assert_eq!((service.chapter(), service.entered()), (2, 5));
     /// # Ok::<(), stm::Error>(())
     /// ```
+    ///
+    /// # Errors
+    ///
+    /// As of [`Declare::text`], and of [`Service::open_with`].
     pub fn service_with(&self, options: ServiceOptions) -> Result<Service, Error> {
         Service::open_with(&self.text()?, options)
     }

@@ -11,6 +11,7 @@
 /// ```
 #[derive(Clone, Debug, PartialEq, Eq)]
 pub struct Declared {
+    /// Their names, without those of cells.
     pub variables: Vec<String>,
     /// Each with how many cells it has.
     pub tables: Vec<(String, u32)>,

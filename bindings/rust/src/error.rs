@@ -16,7 +16,16 @@ pub enum Error {
     /// let told = "line 2, column 12: F4 Name: no variable of this name is declared; here stands y; did you mean x?";
     /// assert_eq!(error.to_string(), told);
     /// ```
-    Refused { fault: FileFault, line: usize, column: usize, text: String },
+    Refused {
+        /// What it is.
+        fault: FileFault,
+        /// Its line.
+        line: usize,
+        /// Its column there.
+        column: usize,
+        /// What `stm explain` prints of it.
+        text: String,
+    },
     /// This word was to be declared, and is no name.
     WrongName(String),
     /// The file as it has become has more bytes than a file may have.
@@ -26,9 +35,21 @@ pub enum Error {
     /// The program has no transaction of this number.
     UnknownTransaction(u32),
     /// The program has no transaction of this name with so many parameters.
-    NoTransaction { name: String, parameters: usize },
+    NoTransaction {
+        /// The name that was looked up.
+        name: String,
+        /// How many parameters it was to have.
+        parameters: usize,
+    },
     /// The transaction has another number of parameters than it was given arguments.
-    WrongArguments { transaction: u32, parameters: usize, given: usize },
+    WrongArguments {
+        /// Its number.
+        transaction: u32,
+        /// How many parameters it has.
+        parameters: usize,
+        /// How many arguments it was given.
+        given: usize,
+    },
     /// The store has no such task in its present chapter: no task has this ticket, or not any more, for it was over when its
     /// chapter ended; the job was taken in another chapter, or the task makes another call; of `give_up`: it is over.
     Gone,
@@ -84,10 +105,15 @@ pub enum FileFault {
 /// Why a schedule is refused.
 #[derive(Clone, Copy, Debug, PartialEq, Eq)]
 pub enum ScheduleFault {
+    /// The schedule has more bytes than a file may have.
     TooLong,
+    /// A byte is not one of those that a schedule may have.
     BadByte,
+    /// The schedule is not of the grammar.
     Shape,
+    /// A name in it is none of the file's.
     Name,
+    /// One of the limits of a schedule is passed.
     Limit,
 }
 
@@ -144,8 +170,11 @@ impl std::error::Error for Error {}
 /// effect on the variables; with the others it was not entered, and never will be.
 #[derive(Clone, Copy, Debug, PartialEq, Eq)]
 pub enum Fault {
+    /// It threw this value.
     Thrown(i64),
+    /// A result was outside 64 bits.
     Overflow,
+    /// It divided by 0.
     DivideByZero,
     /// It would have broken the standing condition of this number.
     Broken(u32),
@@ -166,8 +195,11 @@ pub enum Fault {
     UnknownTransaction(u32),
     /// The transaction has another number of parameters than it was given arguments.
     WrongArguments {
+        /// Its number.
         transaction: u32,
+        /// How many parameters it has.
         parameters: usize,
+        /// How many arguments it was given.
         given: usize,
     },
 }

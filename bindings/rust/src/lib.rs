@@ -22,6 +22,7 @@
 //! ```
 
 #![deny(unsafe_code)]
+#![warn(missing_docs)]
 
 mod answers;
 mod call;
@@ -54,6 +55,10 @@ pub use transaction::{Callable, Transaction};
 /// assert!(report.ends_with("now 3\nx 8 3\nend\n"));
 /// # Ok::<(), stm::Error>(())
 /// ```
+///
+/// # Errors
+///
+/// The file is refused: [`Error::Refused`], which says where and why. [`Error::Memory`].
 pub fn run_one(file: &str, checkpoint: u32) -> Result<String, Error> {
     raw::run_one(file.as_bytes(), checkpoint)
 }
@@ -66,16 +71,35 @@ pub fn run_one(file: &str, checkpoint: u32) -> Result<String, Error> {
 /// let told = "line 1, column 7: F3 Shape: the initial value is wanted, an INT; here stands )";
 /// assert_eq!(error.to_string(), told);
 /// ```
+///
+/// # Errors
+///
+/// The file is refused: [`Error::Refused`], which says where and why. [`Error::Memory`].
 pub fn explain(file: &str) -> Result<(), Error> {
     raw::explain(file.as_bytes())
 }
 
 /// Whether a report is lawful for a file.
+///
+/// ```
+/// let file = "(var x 1) (tx two (set x (add x x)) x) (run two 3)";
+/// assert_eq!(stm::check(file, &stm::run_one(file, 0)?)?, stm::Verdict::Good);
+/// assert_eq!(stm::check(file, "base 0")?, stm::Verdict::Bad(stm::Part::Text));
+/// # Ok::<(), stm::Error>(())
+/// ```
+///
+/// # Errors
+///
+/// The file is refused: [`Error::Refused`], which says where and why. [`Error::Memory`].
 pub fn check(file: &str, report: &str) -> Result<Verdict, Error> {
     raw::check(file.as_bytes(), report.as_bytes())
 }
 
 /// What is seen of a schedule of single loads and stores, on the stepped world of a file.
+///
+/// # Errors
+///
+/// The file is refused: [`Error::Refused`]; or the schedule: [`Error::Schedule`]. [`Error::Memory`].
 pub fn world(file: &str, schedule: &str) -> Result<String, Error> {
     raw::world(file.as_bytes(), schedule.as_bytes())
 }
@@ -88,12 +112,21 @@ pub fn world(file: &str, schedule: &str) -> Result<String, Error> {
 /// assert_eq!(found, "states 3\ntx two returned\nends 1\n1 x 4\nend\n");
 /// # Ok::<(), stm::Error>(())
 /// ```
+///
+/// # Errors
+///
+/// The file is refused: [`Error::Refused`]. [`Error::States`], [`Error::MoreStates`], [`Error::Memory`].
 pub fn explore(file: &str, states: u32) -> Result<String, Error> {
     raw::explore(file.as_bytes(), states)
 }
 
 /// The report of a run that comes to the end of this number, counted from 1 as `explore` lists
 /// them, by as few turns as any order has to it.
+///
+/// # Errors
+///
+/// The file is refused: [`Error::Refused`]. [`Error::States`], [`Error::MoreStates`], [`Error::NoEnd`],
+/// [`Error::Memory`].
 pub fn explore_to(file: &str, states: u32, end: usize) -> Result<String, Error> {
     raw::explore_to(file.as_bytes(), states, end)
 }

@@ -163,6 +163,7 @@ extern "C" {
 /// Whether a report is lawful.
 #[derive(Clone, Copy, Debug, PartialEq, Eq)]
 pub enum Verdict {
+    /// It is.
     Good,
     /// The first part that does not hold.
     Bad(Part),

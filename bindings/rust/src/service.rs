@@ -101,11 +101,20 @@ impl ServiceOptions {
 impl Service {
     /// The service of the program that the text spells. The tasks of its runs have their turns first. What it says
     /// stays in memory until the process ends.
+    ///
+    /// # Errors
+    ///
+    /// The file is refused: [`Error::Refused`], which says where and why. [`Error::Memory`].
     pub fn open(text: &str) -> Result<Service, Error> {
         Service::open_with(text, ServiceOptions::new())
     }
 
     /// As `open`, by options of one's own.
+    ///
+    /// # Errors
+    ///
+    /// The file is refused: [`Error::Refused`]. A chapter can't have room for so many tasks: [`Error::NoRoom`].
+    /// There are to be more than 32 workers: [`Error::TooManyWorkers`]. [`Error::Memory`].
     pub fn open_with(text: &str, options: ServiceOptions) -> Result<Service, Error> {
         let ServiceOptions { room, checkpoint, observers, keep } = options;
         Ok(Service { raw: RawService::open(text.as_bytes(), room, checkpoint, observers, keep)? })
@@ -147,6 +156,10 @@ impl Service {
     /// assert_eq!(error.to_string(), "there is no transaction pay with 2 parameters");
     /// # Ok::<(), stm::Error>(())
     /// ```
+    ///
+    /// # Errors
+    ///
+    /// [`Error::NoTransaction`]: there is none of this name, or it has another number of parameters.
     pub fn transaction_of<const N: usize>(&self, name: &str) -> Result<Transaction<N>, Error> {
         let number = self.transaction(name);
         Transaction::of(name, number.and_then(|number| Some((number, self.parameters(number)?))))
@@ -160,11 +173,27 @@ impl Service {
     /// Runs the transaction as one atomic step: what it returned. It is given an argument for each of its parameters,
     /// in their order: `&[]` where it has none. Where it retries the thread waits until a commit changed what it read,
     /// and it was entered.
+    ///
+    /// # Errors
+    ///
+    /// The transaction was entered, and did not return: [`Fault::Thrown`], [`Fault::Overflow`],
+    /// [`Fault::DivideByZero`], [`Fault::Broken`], [`Fault::Outside`].
+    ///
+    /// It was not entered: [`Fault::Closed`], [`Fault::NoRoom`], [`Fault::Memory`], [`Fault::UnknownTransaction`],
+    /// [`Fault::WrongArguments`].
     pub fn atomically<T: Callable>(&self, transaction: T, arguments: T::Arguments<'_>) -> Result<i64, Fault> {
         self.raw.atomically(transaction.number(), arguments.as_ref())?.returned()
     }
 
     /// As `atomically`; `Retries`, and nothing was entered, where the transaction retries on the present values.
+    ///
+    /// # Errors
+    ///
+    /// The transaction was entered, and did not return: [`Fault::Thrown`], [`Fault::Overflow`],
+    /// [`Fault::DivideByZero`], [`Fault::Broken`], [`Fault::Outside`].
+    ///
+    /// It was not entered: [`Fault::Retries`], [`Fault::Closed`], [`Fault::NoRoom`], [`Fault::Memory`],
+    /// [`Fault::UnknownTransaction`], [`Fault::WrongArguments`].
     pub fn try_atomically<T: Callable>(
         &self,
         transaction: T,
@@ -184,6 +213,14 @@ impl Service {
     /// assert_eq!(service.atomically_within(0, &[], Duration::from_millis(1)), Err(stm::Fault::TimedOut));
     /// # Ok::<(), stm::Error>(())
     /// ```
+    ///
+    /// # Errors
+    ///
+    /// The transaction was entered, and did not return: [`Fault::Thrown`], [`Fault::Overflow`],
+    /// [`Fault::DivideByZero`], [`Fault::Broken`], [`Fault::Outside`].
+    ///
+    /// It was not entered: [`Fault::TimedOut`], [`Fault::Closed`], [`Fault::NoRoom`], [`Fault::Memory`],
+    /// [`Fault::UnknownTransaction`], [`Fault::WrongArguments`].
     pub fn atomically_within<T: Callable>(
         &self,
         transaction: T,
@@ -231,6 +268,10 @@ impl Service {
     /// assert_eq!(pays.as_mut().poll(&mut context), Poll::Ready(Ok(40)));
     /// # Ok::<(), stm::Error>(())
     /// ```
+    ///
+    /// # Errors
+    ///
+    /// The future has those of [`Service::atomically`].
     pub fn call<T: Callable>(&self, transaction: T, arguments: T::Arguments<'_>) -> Call<'_> {
         Call::new(&self.raw, transaction.number(), arguments.as_ref(), Receipt::returned)
     }
@@ -261,6 +302,14 @@ impl Service {
     /// assert_eq!(service.entered(), 0);
     /// # Ok::<(), stm::Error>(())
     /// ```
+    ///
+    /// # Errors
+    ///
+    /// The transaction would not return: [`Fault::Thrown`], [`Fault::Overflow`], [`Fault::DivideByZero`],
+    /// [`Fault::Broken`], [`Fault::Outside`].
+    ///
+    /// It is not known how it would end: [`Fault::Retries`], [`Fault::Closed`], [`Fault::Memory`],
+    /// [`Fault::UnknownTransaction`], [`Fault::WrongArguments`].
     pub fn observe<T: Callable>(&self, transaction: T, arguments: T::Arguments<'_>) -> Result<i64, Fault> {
         self.raw.observe(transaction.number(), arguments.as_ref())
     }
@@ -321,12 +370,20 @@ impl Service {
     }
 
     /// The report of the present chapter.
+    ///
+    /// # Errors
+    ///
+    /// [`Error::Memory`].
     pub fn report(&self) -> Result<String, Error> {
         self.raw.report()
     }
 
     /// The file of the present chapter as it has become. Once the service is closed, file and report are a pair that
     /// `check` finds good.
+    ///
+    /// # Errors
+    ///
+    /// [`Error::TooLong`]: the file as it has become is too long. [`Error::Memory`].
     pub fn file(&self) -> Result<String, Error> {
         self.raw.file()
     }
@@ -357,7 +414,12 @@ pub struct Receipts<'a> {
 }
 
 impl<'a> Receipts<'a> {
-    /// As `Service::atomically`.
+    /// As [`Service::atomically`].
+    ///
+    /// # Errors
+    ///
+    /// It was not entered: [`Fault::Closed`], [`Fault::NoRoom`], [`Fault::Memory`], [`Fault::UnknownTransaction`],
+    /// [`Fault::WrongArguments`].
     pub fn atomically<T: Callable>(
         self,
         transaction: T,
@@ -366,7 +428,12 @@ impl<'a> Receipts<'a> {
         self.raw.atomically(transaction.number(), arguments.as_ref())
     }
 
-    /// As `Service::try_atomically`.
+    /// As [`Service::try_atomically`].
+    ///
+    /// # Errors
+    ///
+    /// It was not entered: [`Fault::Retries`], [`Fault::Closed`], [`Fault::NoRoom`], [`Fault::Memory`],
+    /// [`Fault::UnknownTransaction`], [`Fault::WrongArguments`].
     pub fn try_atomically<T: Callable>(
         self,
         transaction: T,
@@ -375,7 +442,12 @@ impl<'a> Receipts<'a> {
         self.raw.try_atomically(transaction.number(), arguments.as_ref())
     }
 
-    /// As `Service::atomically_within`.
+    /// As [`Service::atomically_within`].
+    ///
+    /// # Errors
+    ///
+    /// It was not entered: [`Fault::TimedOut`], [`Fault::Closed`], [`Fault::NoRoom`], [`Fault::Memory`],
+    /// [`Fault::UnknownTransaction`], [`Fault::WrongArguments`].
     pub fn atomically_within<T: Callable>(
         self,
         transaction: T,
@@ -391,7 +463,11 @@ impl<'a> Receipts<'a> {
         self.raw.each(transaction, rows).collect()
     }
 
-    /// As `Service::call`.
+    /// As [`Service::call`].
+    ///
+    /// # Errors
+    ///
+    /// The future has those of [`Receipts::atomically`].
     pub fn call<T: Callable>(self, transaction: T, arguments: T::Arguments<'_>) -> Call<'a, Receipt> {
         Call::new(self.raw, transaction.number(), arguments.as_ref(), Ok)
     }

@@ -16,6 +16,10 @@ pub struct Program {
 
 impl Program {
     /// The program that the text spells.
+    ///
+    /// # Errors
+    ///
+    /// The file is refused: [`Error::Refused`], which says where and why. [`Error::Memory`].
     pub fn read(text: &str) -> Result<Program, Error> {
         Ok(Program { raw: RawProgram::read(text.as_bytes())?, text: text.to_string() })
     }
@@ -61,6 +65,10 @@ impl Program {
     }
 
     /// As `Service::transaction_of`.
+    ///
+    /// # Errors
+    ///
+    /// [`Error::NoTransaction`]: there is none of this name, or it has another number of parameters.
     pub fn transaction_of<const N: usize>(&self, name: &str) -> Result<Transaction<N>, Error> {
         let number = self.transaction(name);
         Transaction::of(name, number.and_then(|number| Some((number, self.parameters(number)?))))
@@ -91,6 +99,10 @@ fn held<T>(lock: &Mutex<T>) -> MutexGuard<'_, T> {
 impl Store {
     /// All tasks ready, the initial values, an empty journal, and room for so many workers, at most
     /// 32 (`TooManyWorkers`). A journal of `checkpoint` entries is followed by a checkpoint; 0: never.
+    ///
+    /// # Errors
+    ///
+    /// [`Error::TooManyWorkers`], [`Error::Memory`].
     pub fn open(program: &Program, workers: usize, checkpoint: u32) -> Result<Store, Error> {
         Store::open_with_room(program, workers, checkpoint, 0)
     }
@@ -108,6 +120,10 @@ impl Store {
     /// assert_eq!(stm::check(&store.file()?, &report)?, Verdict::Good);
     /// # Ok::<(), stm::Error>(())
     /// ```
+    ///
+    /// # Errors
+    ///
+    /// [`Error::TooManyWorkers`]. There can't be room for so many tasks: [`Error::NoRoom`]. [`Error::Memory`].
     pub fn open_with_room(
         program: &Program,
         workers: usize,
@@ -120,6 +136,10 @@ impl Store {
 
     /// A ready task more of the transaction, which is given an argument for each of its parameters, in their order:
     /// its ticket. It takes no memory.
+    ///
+    /// # Errors
+    ///
+    /// [`Error::NoRoom`], [`Error::UnknownTransaction`], [`Error::WrongArguments`].
     pub fn submit<T: Callable>(&self, transaction: T, arguments: T::Arguments<'_>) -> Result<Ticket, Error> {
         held(&self.raw).submit(transaction.number(), arguments.as_ref())
     }
@@ -154,6 +174,11 @@ impl Store {
     /// assert_eq!(store.call(0, &[], Way::Waits)?.end, End::Parked);
     /// # Ok::<(), stm::Error>(())
     /// ```
+    ///
+    /// # Errors
+    ///
+    /// [`Error::NoRoom`], [`Error::UnknownTransaction`], [`Error::WrongArguments`]; where it only tries
+    /// [`Error::Retries`], [`Error::Memory`].
     pub fn call<T: Callable>(
         &self,
         transaction: T,
@@ -177,6 +202,10 @@ impl Store {
     /// assert_eq!(store.take(), Err(Error::NotReady));
     /// # Ok::<(), stm::Error>(())
     /// ```
+    ///
+    /// # Errors
+    ///
+    /// [`Error::NotRunning`], [`Error::Gone`].
     pub fn turn(&self, job: Job) -> Result<Answer, Error> {
         held(&self.raw).turn(job)
     }
@@ -215,16 +244,28 @@ impl Store {
 
     /// The file as it has become, with a run for each task that was submitted. With the report of the
     /// same moment it is a pair that `check` finds good.
+    ///
+    /// # Errors
+    ///
+    /// [`Error::TooLong`]: the file as it has become is too long. [`Error::Memory`].
     pub fn file(&self) -> Result<String, Error> {
         held(&self.raw).file()
     }
 
     /// As `report`, with no turn given: `WorkLeft` exactly where a task is ready or running.
+    ///
+    /// # Errors
+    ///
+    /// [`Error::WorkLeft`], [`Error::Memory`].
     pub fn report_now(&self) -> Result<String, Error> {
         held(&self.raw).report_now()
     }
 
     /// `report` and `file` of one moment.
+    ///
+    /// # Errors
+    ///
+    /// As of [`Store::report`] and [`Store::file`].
     pub fn report_and_file(&self) -> Result<(String, String), Error> {
         let mut raw = held(&self.raw);
         let report = raw.report()?;
@@ -232,12 +273,20 @@ impl Store {
     }
 
     /// A worker, for one thread.
+    ///
+    /// # Errors
+    ///
+    /// [`Error::NoWorker`], [`Error::Memory`].
     pub fn worker(&self) -> Result<Worker, Error> {
         Ok(Worker { raw: held(&self.raw).worker()? })
     }
 
     /// The lowest ready task, which is then running, with all that a worker has to be told of it: its arguments too.
     /// `NotReady` where none is.
+    ///
+    /// # Errors
+    ///
+    /// [`Error::NotReady`].
     pub fn take(&self) -> Result<Job, Error> {
         held(&self.raw).take()
     }
@@ -254,6 +303,10 @@ impl Store {
     /// assert_eq!(store.claim(Ticket(2)), Err(Error::Gone));
     /// # Ok::<(), stm::Error>(())
     /// ```
+    ///
+    /// # Errors
+    ///
+    /// [`Error::NotReady`], [`Error::Gone`].
     pub fn claim(&self, ticket: Ticket) -> Result<Job, Error> {
         held(&self.raw).claim(ticket)
     }
@@ -261,6 +314,10 @@ impl Store {
     /// Brings the worker's ended attempt to the store: what became of its task. Nothing changed: `Stale`, where what it
     /// read is no longer so; `NotRunning`; `NotEnded`; `Gone`; `OtherProgram`, where the worker's program says otherwise
     /// of the transaction.
+    ///
+    /// # Errors
+    ///
+    /// [`Error::Stale`], [`Error::NotRunning`], [`Error::NotEnded`], [`Error::Gone`], [`Error::OtherProgram`].
     pub fn bring(&self, worker: &mut Worker) -> Result<Answer, Error> {
         held(&self.raw).bring(&mut worker.raw)
     }
@@ -275,6 +332,10 @@ impl Store {
     /// assert_eq!(store.standing(stm::Ticket(0)), Ok(stm::Standing::Done(1)));
     /// # Ok::<(), stm::Error>(())
     /// ```
+    ///
+    /// # Errors
+    ///
+    /// [`Error::Gone`]: no task of the chapter has the ticket.
     pub fn standing(&self, ticket: Ticket) -> Result<Standing, Error> {
         held(&self.raw).standing(ticket)
     }
@@ -293,6 +354,10 @@ impl Store {
     /// assert_eq!(store.outcome(ticket), Ok(None));
     /// # Ok::<(), stm::Error>(())
     /// ```
+    ///
+    /// # Errors
+    ///
+    /// [`Error::Gone`]: no task of the chapter has the ticket.
     pub fn outcome(&self, ticket: Ticket) -> Result<Option<Entered>, Error> {
         held(&self.raw).outcome(ticket)
     }
@@ -325,6 +390,10 @@ impl Store {
     /// assert_eq!(store.give_up(Ticket(0)), Err(Error::Gone));
     /// # Ok::<(), stm::Error>(())
     /// ```
+    ///
+    /// # Errors
+    ///
+    /// [`Error::Gone`].
     pub fn give_up(&self, ticket: Ticket) -> Result<(), Error> {
         held(&self.raw).give_up(ticket)
     }
@@ -364,6 +433,10 @@ impl Store {
     }
 
     /// Gives each task that is ready or running a turn, and reports.
+    ///
+    /// # Errors
+    ///
+    /// [`Error::Memory`].
     pub fn report(&self) -> Result<String, Error> {
         held(&self.raw).report()
     }
@@ -372,12 +445,22 @@ impl Store {
 impl Worker {
     /// Evaluates a job that was taken on one state, without a lock: where it ended, bring it to the store. `Stale` where
     /// what was read is no longer so: try again. `Memory` where a growth was refused: give the task up, or try again.
+    ///
+    /// # Errors
+    ///
+    /// [`Error::Stale`], [`Error::Memory`]. The job is none of a store: [`Error::Gone`],
+    /// [`Error::UnknownTransaction`], [`Error::WrongArguments`].
     pub fn try_job(&mut self, job: Job) -> Result<(), Error> {
         self.raw.try_job(job)
     }
 
     /// How the transaction would end with these arguments on one state, without a lock: `Retries` where it retries,
     /// `Stale` and `Memory` as of `try_job`.
+    ///
+    /// # Errors
+    ///
+    /// [`Error::Retries`], [`Error::Stale`], [`Error::Memory`], [`Error::UnknownTransaction`],
+    /// [`Error::WrongArguments`].
     pub fn observe<T: Callable>(
         &mut self,
         transaction: T,
@@ -403,11 +486,19 @@ impl Default for RunOptions {
 }
 
 /// Runs all tasks by so many workers, each a thread, and reports.
+///
+/// # Errors
+///
+/// [`Error::TooManyWorkers`], [`Error::Memory`].
 pub fn run(program: &Program, workers: usize) -> Result<String, Error> {
     run_with(program, workers, RunOptions::default())
 }
 
 /// As `run`, by a policy of one's own.
+///
+/// # Errors
+///
+/// [`Error::TooManyWorkers`], [`Error::Memory`].
 pub fn run_with(program: &Program, workers: usize, retry: RunOptions) -> Result<String, Error> {
     let store = Store::open(program, workers, retry.checkpoint)?;
     let mut crew = Vec::new();
