@@ -581,6 +581,11 @@ public:
         if (held_) stm_each(held_->at, transaction, given.data(), given.count(), told.size(), told.data());
         return std::vector<outcome>(told.begin(), told.end());
     }
+    template <std::size_t Parameters, class Rows, std::size_t N = std::tuple_size<detail::row_of<Rows>>::value>
+    [[nodiscard]] std::vector<outcome> each(stm::transaction<Parameters> of, const Rows &given) {
+        static_assert(N == Parameters, "stm: a row has an argument for each parameter of its transaction");
+        return each(of.number(), rows(given));
+    }
     [[nodiscard]] std::vector<outcome> each(std::string_view name, const rows &given) {
         auto number = transaction(name);
         if (number) return each(*number, given);

@@ -15,7 +15,7 @@ const BANK: &str = "(stm 3)
 fn main() -> Result<(), stm::Error> {
     let bank = Service::open(BANK)?;
     let wages: Vec<[i64; 2]> = (0..1000).map(|to| [to, 100]).collect();
-    let paid = bank.each(0, &wages);
+    let paid = bank.each(bank.transaction_of::<2>("wage")?, &wages);
     let returned = paid.iter().filter(|one| one.is_ok()).count();
     println!("{returned} of {} wages are paid", paid.len());
     for (i, one) in paid.iter().enumerate() {

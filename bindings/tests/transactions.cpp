@@ -6,6 +6,7 @@
 #include <array>
 #include <cstdint>
 #include <utility>
+#include <vector>
 
 using namespace std::chrono_literals;
 
@@ -62,6 +63,9 @@ static void each_way_to_give_them() {
     wants(bool(bank.start(three, others, tells)) && told == 789 + 987);
     std::int64_t one[] = {2};
     wants(bank.atomically(bank.transaction<1>("pay").value(), one).value() == 98);
+    const std::vector<std::array<std::int64_t, 3>> rows = {{7, 8, 9}, {1, 2, 3}};
+    auto each = bank.each(three, rows);
+    wants(each.size() == 2 && each[0].value() == 789 && each[1].value() == 123);
     wants(bank.atomically(three.number(), {1, 2, 3}).value() == 123);
     wants(bank.atomically(three.number(), {1, 2}).code() == STM_UNKNOWN);
 }

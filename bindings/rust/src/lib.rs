@@ -45,7 +45,7 @@ pub use error::{Error, Fault, FileFault, NotKept, ScheduleFault};
 pub use raw::{Counts, Part, ServiceCounts, Verdict};
 pub use service::{Receipts, Service, ServiceOptions};
 pub use store::{run, run_with, Program, RunOptions, Store, Worker};
-pub use transaction::{Callable, Transaction};
+pub use transaction::{Callable, CallableByRows, Transaction};
 
 /// All tasks of a file, one after another on this thread: its report. A journal of `checkpoint`
 /// entries is followed by a checkpoint; 0: never.

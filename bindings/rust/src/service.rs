@@ -5,7 +5,7 @@ use crate::call::Call;
 use crate::declared::Declared;
 use crate::error::{Error, Fault, NotKept};
 use crate::raw::{Keep, RawService, ServiceCounts};
-use crate::transaction::{Callable, Transaction};
+use crate::transaction::{Callable, CallableByRows, Transaction};
 use std::fmt::Debug;
 use std::time::Duration;
 
@@ -230,8 +230,8 @@ impl Service {
         self.receipts().atomically_within(transaction, arguments, time)?.returned()
     }
 
-    /// Makes a call for each row, in their order, each a step of its own, as `try_atomically` does: for who makes many. What
-    /// each returned, or why it did not: those behind it are made all the same. From the first one on that is answered
+    /// Makes a call for each row, in their order, each a step of its own, as `try_atomically` does: for who makes many.
+    /// What each returned, or why it did not: those behind it are made all the same. From the first one on that is answered
     /// `NoRoom` or `Closed` none is made, and each is answered so.
     ///
     /// ```
@@ -241,12 +241,31 @@ impl Service {
     ///     "(stm 3) (table acct 9 100) (tx pay (from to k) (seq (if (lt (at acct from) k) (throw k) (skip))
     ///      (put acct from (sub (at acct from) k)) (put acct to (add (at acct to) k))) (at acct from))",
     /// )?;
-    /// let paid = bank.each(0, &[[3, 5, 60], [3, 5, 60], [5, 3, 10]]);
+    /// let pay = bank.transaction_of::<3>("pay")?;
+    /// let paid = bank.each(pay, &[[3, 5, 60], [3, 5, 60], [5, 3, 10]]);
     /// assert_eq!(paid, [Ok(40), Err(Fault::Thrown(60)), Ok(150)]);
+    /// assert_eq!(bank.each(pay.number(), &[[3, 5]]).len(), 1);
     /// # Ok::<(), stm::Error>(())
     /// ```
-    pub fn each<const N: usize>(&self, transaction: u32, rows: &[[i64; N]]) -> Vec<Result<i64, Fault>> {
-        self.raw.each(transaction, rows).map(|made| made?.returned()).collect()
+    ///
+    /// With rows of another length:
+    ///
+    /// ```compile_fail,E0277
+    /// let bank = stm::Service::open("(stm 3) (var x 1) (tx put (k) (set x k) x)")?;
+    /// let put = bank.transaction_of::<1>("put")?;
+    /// assert_eq!(bank.each(put, &[[3, 5]]).len(), 1);
+    /// # Ok::<(), stm::Error>(())
+    /// ```
+    ///
+    /// # Errors
+    ///
+    /// Of each row: as of [`Service::try_atomically`].
+    pub fn each<const N: usize>(
+        &self,
+        transaction: impl CallableByRows<N>,
+        rows: &[[i64; N]],
+    ) -> Vec<Result<i64, Fault>> {
+        self.raw.each(transaction.number(), rows).map(|made| made?.returned()).collect()
     }
 
     /// The call as a future of what `atomically` answers, over any executor: no thread waits for it. It is made when it
@@ -458,9 +477,17 @@ impl<'a> Receipts<'a> {
         self.raw.atomically_within(transaction.number(), arguments.as_ref(), nanoseconds)
     }
 
-    /// As `Service::each`.
-    pub fn each<const N: usize>(self, transaction: u32, rows: &[[i64; N]]) -> Vec<Result<Receipt, Fault>> {
-        self.raw.each(transaction, rows).collect()
+    /// As [`Service::each`].
+    ///
+    /// # Errors
+    ///
+    /// Of each row: as of [`Receipts::try_atomically`].
+    pub fn each<const N: usize>(
+        self,
+        transaction: impl CallableByRows<N>,
+        rows: &[[i64; N]],
+    ) -> Vec<Result<Receipt, Fault>> {
+        self.raw.each(transaction.number(), rows).collect()
     }
 
     /// As [`Service::call`].

@@ -114,3 +114,11 @@ impl<T: Callable> Callable for &T {
         T::number(self)
     }
 }
+
+/// What many calls may name their transaction by, with `N` arguments for each: a [`Transaction`] of as many parameters;
+/// or a number, whose parameters are counted as the calls are made.
+pub trait CallableByRows<const N: usize>: Callable {}
+
+impl<const N: usize> CallableByRows<N> for Transaction<N> {}
+impl<const N: usize> CallableByRows<N> for u32 {}
+impl<const N: usize, T: CallableByRows<N>> CallableByRows<N> for &T {}
