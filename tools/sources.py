@@ -20,7 +20,7 @@ VERSION_SOURCE, NUMBER = "crates/command_line/src/words.rt", r"\d+\.\d+\.\d+"
 # The parts of the library that are in C, and what they include of their own; the headers that a host includes, each with
 # its folder of bindings/; and what is made of all of it.
 PARTS, SONAME = ("heap.c", "service.c", "words.c"), "libstm.so.0"
-INCLUDED = ("asking", "bell", "calls", "chapter_room", "chapters", "ending", "inside", "lines", "lock", "looks")
+INCLUDED = ("asking", "bell", "calls", "chapter_room", "chapters", "each", "ending", "inside", "lines", "lock", "looks")
 INCLUDED += ("sleep", "started", "starting", "taking", "waiting", "workers")
 INCLUDED = tuple(f"{name}.h" for name in INCLUDED)
 HEADERS = {"desk.h": "c", "service.h": "c", "stm.h": "c", "stm.hpp": "cpp"}
