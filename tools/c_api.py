@@ -12,6 +12,8 @@ COMMENT = re.compile(r"/\*.*?\*/", re.S)
 CODE = re.compile(r"(?<![`\w])STM_[A-Z]\w*")
 CODES = re.compile(r"STM_[A-Z]\w*(?: \.\. STM_[A-Z]\w*)?")
 NAMED = re.compile(r"`(stm_\w+)`")
+# A call that does what another one does, but for what is said then.
+AS = re.compile(r"(?:^|\. )As `(stm_\w+)`")
 
 
 class Section:
@@ -97,13 +99,20 @@ def codes(declaration, names, words):
     return lines
 
 
+def codes_of(comment, names):
+    """Which codes a comment names, and of which other calls it has those."""
+    said_here = ", ".join(linked(code, names) for code in dict.fromkeys(CODES.findall(comment)))
+    others = [f"those of [`{name}`](#{name})" for name in AS.findall(comment) if name in names]
+    return "; ".join(part for part in (said_here, *others) if part)
+
+
 def entry(name, declaration, comment, names, words):
     paragraphs = [f"{linked(part, names, name)}\n" for part in comment]
     if name == "stm_code":
         return [f"### {name}", "", *paragraphs, *codes(declaration, names, words), ""]
-    told = list(dict.fromkeys(CODES.findall(" ".join(comment))))
+    told = codes_of(" ".join(comment), names)
     if told and "{" not in declaration:
-        paragraphs += ["Codes: " + ", ".join(linked(code, names) for code in told) + ".", ""]
+        paragraphs += [f"Codes: {told}.", ""]
     return [f"### {name}", "", "```c", *declaration.splitlines(), "```", "", *paragraphs]
 
 
