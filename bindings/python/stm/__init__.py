@@ -12,8 +12,8 @@
         bank.atomically("add", [3, 5])
         bank.value("acct[3]"), bank.table("acct")[3], sum(bank.table("acct"))  # 5, 5, 5
 
-`run`, `check`, `world`, `explore` and `explore_to` take whole files. Where a file is refused, `Refused` tells its line
-and column, as `explain` does.
+`run`, `check`, `world`, `explore` and `explore_to` take whole files, and `declared` tells the names in one. Where a
+file is refused, `Refused` tells its line and column, as `explain` does.
 """
 
 from ._each import Answers
@@ -37,7 +37,7 @@ from ._faults import (
     WrongArguments,
 )
 from ._files import Verdict, check, explain, explore, explore_to, run, version, world
-from ._names import Declared
+from ._names import Declared, declared
 from ._service import Counts, Service
 from ._table import Table
 
@@ -66,6 +66,7 @@ __all__ = [
     "Verdict",
     "WrongArguments",
     "check",
+    "declared",
     "explain",
     "explore",
     "explore_to",

@@ -62,6 +62,10 @@ class EndedChapter(ctypes.Structure):
     _fields_ = [("at", ctypes.c_void_p)]
 
 
+class Program(ctypes.Structure):
+    _fields_ = [("at", ctypes.c_void_p)]
+
+
 class CallTold(ctypes.Structure):
     _fields_ = [("own", ctypes.c_void_p), ("answer", Answer)]
 
@@ -104,6 +108,8 @@ CALLS: Dict[str, Tuple[Any, List[Any]]] = {
     "stm_takes_chapters": (ctypes.c_int, [ctypes.c_void_p, *_TEXT, *_TEXT]),
     "stm_service_open": (_CODE, [*_TEXT, ctypes.POINTER(Options), ctypes.POINTER(_SERVICE)]),
     "stm_service_program": (_PROGRAM, [_SERVICE]),
+    "stm_read": (_CODE, [*_TEXT, _PROGRAM]),
+    "stm_program_free": (None, [_PROGRAM]),
     "stm_program_variables": (ctypes.c_size_t, [_PROGRAM]),
     "stm_program_tables": (ctypes.c_size_t, [_PROGRAM]),
     "stm_program_conditions": (ctypes.c_size_t, [_PROGRAM]),

@@ -51,8 +51,9 @@ def _text(call: Callable[..., int], file: str, *given: object) -> str:
 
 
 def taken(text: str) -> tuple[bytes, int]:
-    """A text as a call takes it: its bytes, and how many there are."""
-    spelled = text.encode()
+    """A text as a call takes it: its bytes, and how many there are. What `surrogateescape` has put there for a byte is
+    that byte."""
+    spelled = text.encode("utf-8", "surrogateescape")
     return spelled, len(spelled)
 
 

@@ -5,7 +5,8 @@ from __future__ import annotations
 import ctypes
 from typing import Callable, Dict, List, NamedTuple
 
-from ._files import copied
+from . import _declared
+from ._files import copied, refused, taken
 from ._library import library
 
 
@@ -19,6 +20,20 @@ class Declared(NamedTuple):
     tables: Dict[str, int]
     conditions: List[str]
     transactions: Dict[str, List[str]]
+
+
+def declared(text: str) -> Declared:
+    """What a file declares, and none of its runs is made: `declared("(var x 1)").variables` are `["x"]`. `Refused`
+    where it is refused. What the file says stays in memory until the process ends."""
+    program = _declared.Program()
+    at = ctypes.c_void_p(ctypes.addressof(program))
+    code = library.stm_read(*taken(text), at)
+    if code != _declared.DONE:
+        raise refused(code, text)
+    try:
+        return declared_by(at)
+    finally:
+        library.stm_program_free(at)
 
 
 def _name(call: Callable[..., int], program: ctypes.c_void_p, *numbers: int) -> str:

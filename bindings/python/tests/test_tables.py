@@ -30,6 +30,16 @@ class Tables(unittest.TestCase):
         self.assertIn("\nacct[0] 40 1\nacct[3] 160 1\nend\n", report)
         self.assertTrue(stm.check(bank.file(), report))
 
+    def test_what_a_file_declares(self):
+        # None of its runs is made: one of these would wait for ever, and another throws.
+        told = stm.declared("(stm 3) (var x 5) (table t 2 0) (always a (le 0 x)) (tx w (n) (retry) n) (run w 3 1)")
+        self.assertEqual(told, (["x"], {"t": 2}, ["a"], {"w": ["n"]}))
+        self.assertEqual(stm.declared(""), ([], {}, [], {}))
+        for wrong, column in (("(var x)", 7), ("; \udce4", 3)):
+            with self.assertRaises(stm.Refused) as raised:
+                stm.declared(wrong)
+            self.assertEqual((raised.exception.line, raised.exception.column), (1, column))
+
     def test_what_is_declared(self):
         with stm.Service(TEXT) as bank:
             declared = bank.declared
