@@ -1,0 +1,1 @@
+"""Modules for hosts, made from files of transactions: what `stm-bind` prints."""
