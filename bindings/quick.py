@@ -5,6 +5,7 @@ import os
 import shutil
 import sys
 
+import bound
 import documented
 import explained
 import languages
@@ -107,3 +108,4 @@ def tried(case, run, work, library):
     python(case, run, library)
     rust(case, run, work, library)
     explained.tried(case, run, work, library)
+    bound.tried(case, run, work, library, few=True)
