@@ -15,6 +15,8 @@ from pages import pages
 from sources import HEADERS, ROOT, SONAME, Failed, files_of, say, version
 
 MANIFEST = os.path.join("share", "stm", "manifest")
+# What makes modules for hosts, beside the program.
+BIND = "bindings/bind/stm-bind"
 COMPLETIONS = {
     "stm.bash": "share/bash-completion/completions/stm",
     "_stm": "share/zsh/site-functions/_stm",
@@ -161,9 +163,10 @@ def places():
     found = {path: f"share/doc/stm/{path}" for path in documents}
     crate = ["Cargo.toml", "Cargo.lock", "build.rs", *(f"src/{path}" for path in below("bindings/rust/src", ".rs"))]
     python = ["pyproject.toml", "stm/py.typed", *(f"stm/{path}" for path in below("bindings/python/stm", ".py"))]
-    for kind, paths in (("rust", crate), ("python", python), ("examples", below("bindings/examples"))):
+    bind = [f"stm_bind/{path}" for path in below("bindings/bind/stm_bind", ".py")]
+    for kind, paths in (("rust", crate), ("python", python), ("bind", bind), ("examples", below("bindings/examples"))):
         found.update({f"bindings/{kind}/{path}": f"share/stm/{kind}/{path}" for path in paths})
-    return found
+    return {**found, BIND: "bin/stm-bind"}
 
 
 def tree(parts, proved_at, prefix="${pcfiledir}/../..", rpath=True):
@@ -183,7 +186,8 @@ def tree(parts, proved_at, prefix="${pcfiledir}/../..", rpath=True):
     linked = {**as_they_lie, **{f"bindings/{folder}/{name}": f"include/stm/{name}" for name, folder in HEADERS.items()}}
     for path, place in as_they_lie.items():
         content = read(ROOT, path)
-        found[place] = (as_installed(path, content.decode(), linked).encode() if path.endswith(".md") else content, 0o644)
+        content = as_installed(path, content.decode(), linked).encode() if path.endswith(".md") else content
+        found[place] = (content, 0o755 if path == BIND else 0o644)
     found[proved_at] = (proved_text(parts).encode(), 0o644)
     return dict(sorted(found.items()))
 
