@@ -42,7 +42,8 @@ start_pay in C and C++, future_pay in C++, call_pay in Rust and Python. A table 
 a variable have a function that looks at their present values; a table's length and
 the standing conditions stand there by name. A name that the language or the module
 has already gets a _ behind it, and one more until no other has it: from is from_ in
-Python. In C and C++ so does a name of capitals alone, which may be a macro.
+Python. In C and C++ so does a name of capitals alone, which may be a macro, and one
+that ends with _t, as types do.
 
 The library is found as by the package stm for Python: in the folder STM_LIB_DIR, or
 as it is installed.

@@ -63,7 +63,7 @@ def names_of(program: Program) -> Names:
     forms = [functions.give([form.format(module, one.name) for one in program.transactions]) for form in FORMS]
     numbers = Scope([])
     lengths = numbers.give([f"{module}_{name}_LENGTH".upper() for name, _cells in program.tables])
-    conditions = numbers.give([f"{module}_{name}".upper() for name in program.conditions])
+    conditions = numbers.give([f"{module}_condition_{name}".upper() for name in program.conditions])
     return Names(module, own, [list(one) for one in zip(*forms)], lengths, conditions)
 
 
