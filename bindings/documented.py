@@ -1,6 +1,6 @@
 """What `bindings/check` tries of the reference pages of hosts in Rust: that `cargo doc` warns of nothing, and that each
-call that can fail says by which errors. Those in Python are tried by the package's tests. `case` and `run` are functions
-of bindings/check; `there` is what `cargo` is given as its environment."""
+call which can fail says by which errors. Those in Python are tried by the package's tests. `case` and `run` are
+functions of bindings/check; `there` is the environment in which `cargo` runs."""
 
 import glob
 import os
@@ -24,7 +24,8 @@ def silent(text):
 
 
 def rust(case, run, there, **more):
-    done = run("cargo", "doc", "-q", "--locked", cwd=f"{HERE}/rust", env=dict(there, RUSTDOCFLAGS="-D warnings"), **more)
+    more.update(cwd=f"{HERE}/rust", env=dict(there, RUSTDOCFLAGS="-D warnings"))
+    done = run("cargo", "doc", "-q", "-j2", "--locked", **more)
     case("cargo doc warns of nothing", done.returncode == 0, done.stderr.decode(errors="replace"))
     failing = 0
     for path in sorted(glob.glob(f"{HERE}/rust/src/*.rs")):
@@ -35,4 +36,4 @@ def rust(case, run, there, **more):
         failing += count
         case(f"{os.path.basename(path)}: each call that can fail says how", not names, " ".join(names))
     case("there are calls in Rust that can fail", failing > 40, str(failing))
-    case("a call that says nothing is told", silent("    /// So.\n    pub fn one(&self) -> Result<i64, Fault> {\n") == (["one"], 1))
+    case("a call that says nothing is told", silent("/// So.\npub fn one() -> Result<(), Fault> {\n") == (["one"], 1))

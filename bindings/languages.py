@@ -53,7 +53,7 @@ EXACT_CALLS = {
     "bank.future(pay, four)": EACH,
     "bank.start(pay, {3, 5}, done)": EACH,
     "bank.atomically(pay, 3, 5, 0.5)": "stm: an argument is an integer",
-    "bank.atomically(*bank.transaction<9>(\"all\"), 1, 2, 3, 4, 5, 6, 7, 8, 9)": "stm: a transaction has at most 8 parameters",
+    "bank.observe(*bank.transaction<9>({}), 1, 2, 3, 4, 5, 6, 7, 8, 9)": "stm: a transaction has at most 8 parameters",
 }
 # How many minutes the simulations are run: many chapters.
 MINUTES = 2_000_000

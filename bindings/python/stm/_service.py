@@ -171,9 +171,9 @@ class Service:
         `TimedOut`, also where it waits for `on_chapter`. A timeout of 0 is a try.
 
         Raises, where it was entered and did not return, `Thrown`, `Overflow`, `DivideByZero`, `Broken` or `Outside`;
-        where it was not entered, `Closed`, `NoRoom`, `OutOfMemory` or `TimedOut`; where it is no such call, `Unknown` or
-        `WrongArguments`, and `ValueError` or `TypeError` where an argument is no number of 64 signed bits. Also what
-        stopped `on_chapter`."""
+        where it was not entered, `Closed`, `NoRoom`, `OutOfMemory` or `TimedOut`; where there is no such call,
+        `Unknown`, `WrongArguments`, or, of an argument that is no number of 64 signed bits, `ValueError` or
+        `TypeError`. Also what stopped `on_chapter`."""
         found, room = self._call(transaction, arguments)
         if timeout is not None:
             # What is no number is no time.
@@ -276,7 +276,7 @@ class Service:
         """What the transaction would return on one state; nothing is entered.
 
         Raises, where it would not return, `Thrown`, `Overflow`, `DivideByZero`, `Broken`, `Outside` or `Retries`; else
-        `Closed` or `OutOfMemory`; and where it is no such call, as `atomically` does."""
+        `Closed` or `OutOfMemory`; and where there is no such call, as `atomically` does."""
         found, room = self._call(transaction, arguments)
         return self._returned(library.stm_service_observe(*self._given(found, room)), room)
 
