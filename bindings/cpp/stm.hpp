@@ -185,10 +185,8 @@ private:
 };
 
 namespace detail {
-
 /// What lies behind one another there.
 template <class Rows> using row_of = std::decay_t<decltype(*std::data(std::declval<const Rows &>()))>;
-
 } // namespace detail
 
 /// What many calls give their transaction, a row for each: a std::vector, a std::array or the like of
@@ -243,10 +241,8 @@ private:
 };
 
 namespace detail {
-
 /// `exactly` so many, however they are given: the number is that of the transaction before them.
 template <std::size_t Parameters> using given_to = std::enable_if_t<true, exactly<Parameters>>;
-
 } // namespace detail
 
 /// A transaction that has so many parameters: its number, and in its type how many arguments a call gives it.
