@@ -253,7 +253,8 @@ def refusals(case, run, work, library):
         done = run(sys.executable, BIND, *words, env=env)
         told = done.stderr.decode()
         good = (done.returncode, done.stdout, told.count("\n")) == (status, b"", 1)
-        case(f"stm-bind with {what}", good and told.startswith(f"stm-bind: {line}"), f"status {done.returncode}: {told}")
+        good = good and told.startswith(f"stm-bind: {line}")
+        case(f"stm-bind with {what}", good, f"status {done.returncode}: {told}")
     full = ["sh", "-c", 'exec "$0" "$@" 2>&1 >/dev/full', sys.executable, BIND, tellers, "--language", "c"]
     done = run(*full, env=there)
     good = done.returncode == 4 and done.stdout == b"stm-bind: cannot write: No space left on device\n"
@@ -270,7 +271,8 @@ def words(case, run, library):
     names.update({"rust": "pub struct TwoPhase {", "python": "class TwoPhase:"})
     for language, part in names.items():
         done = bound(run, library, f"{ROOT}/examples/tellers.stm", language, "--name", "two_phase")
-        good = part in done.stdout.decode() and f"--language {language} --name two_phase`" in done.stdout.decode()
+        printed = done.stdout.decode()
+        good = part in printed and f"--language {language} --name two_phase`" in printed
         case(f"a name for the module in {language}", good, told_by(done)[:1000])
 
 
