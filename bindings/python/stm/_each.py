@@ -131,7 +131,7 @@ class Given:
         try:
             flat: Any = memoryview(rows)  # type: ignore[arg-type]
         except TypeError:
-            listed = rows if isinstance(rows, (list, tuple)) else list(rows)
+            listed: Any = rows if isinstance(rows, (list, tuple)) else list(rows)
             flat, self.calls = _packed(listed, parameters, wrong), len(listed)
         else:
             self.calls = _calls_in(name, parameters, flat)
