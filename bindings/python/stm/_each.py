@@ -91,7 +91,7 @@ class Answers:
             fault.__cause__ = self._cause
         return fault
 
-    def add(self, room: RoomOfEach, count: int) -> None:
+    def _add(self, room: RoomOfEach, count: int) -> None:
         """So many are answered there: a portion, but the last one may be shorter."""
         codes = room.ints[_CODE : count * _CODES : _CODES].tobytes()
         if codes.strip(b"\0"):
@@ -99,7 +99,7 @@ class Answers:
         self.values.frombytes(room.numbers[_VALUE : count * _VALUES : _VALUES].tobytes())
         self.codes.frombytes(codes)
 
-    def end(self, count: int, cause: Optional[BaseException]) -> None:
+    def _end(self, count: int, cause: Optional[BaseException]) -> None:
         """So many more were not made, for there is no room."""
         self.values.frombytes(bytes(count * _NUMBER))
         self.codes.extend(array("i", [_declared.NO_ROOM]) * count)

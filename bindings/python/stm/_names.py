@@ -23,8 +23,8 @@ class Declared(NamedTuple):
 
 
 def declared(text: str) -> Declared:
-    """What a file declares, and none of its runs is made: `declared("(var x 1)").variables` are `["x"]`. `Refused`
-    where it is refused. What the file says stays in memory until the process ends."""
+    """What a file declares, and none of its runs is made: `declared("(var x 1)").variables` are `["x"]`. Raises
+    `Refused`, which tells where and why. What the file says stays in memory until the process ends."""
     program = _declared.Program()
     at = ctypes.c_void_p(ctypes.addressof(program))
     code = library.stm_read(*taken(text), at)

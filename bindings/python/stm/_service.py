@@ -199,7 +199,7 @@ class Service:
         of two dimensions: where it is in one piece it is not copied. Where a row is wrong no call is made. Where a call
         does not return, those behind it are made all the same; but from the first one on for which there is no room, or
         that finds the service closed, they are answered so too. An interrupt comes between two calls: what was entered
-        stays so, and the answers are lost."""
+        stays so, and the answers are lost. Raises `Unknown`, and `WrongArguments` where a row is wrong."""
         if self._stops:
             self._stop()
         found = self._found.get(transaction) or self._transaction(transaction)
@@ -208,9 +208,9 @@ class Service:
         for begin in range(0, given.calls, PORTION):
             count = min(PORTION, given.calls - begin)
             made = self._made(found, given, begin, room, count)
-            answers.add(room, made)
+            answers._add(room, made)
             if made < count or answers.codes[-1] == _declared.NO_ROOM:
-                answers.end(given.calls - len(answers), self._failed())
+                answers._end(given.calls - len(answers), self._failed())
                 break
         return answers
 
