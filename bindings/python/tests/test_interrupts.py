@@ -61,8 +61,11 @@ class Interrupts(unittest.TestCase):
             service.close,
         )
         for call in calls:
-            interrupts = in_thread(lambda: interrupt(0.05))
-            self.assertRaises(KeyboardInterrupt, call)
+            begins = threading.Event()
+            interrupts = in_thread(lambda: begins.wait(LONG) and interrupt(0.05))
+            with self.assertRaises(KeyboardInterrupt):
+                begins.set()
+                call()
             interrupts.join(LONG)
         self.assertEqual((len(pairs), service.entered), (0, 2))
         goes_on.set()
