@@ -223,7 +223,7 @@ def body_in_cpp(at, program):
     kind = names.type
     yield from [f"static void try_{at}(const char *path) {{", f'    check("{at}: text", {kind}::text() == read(path));']
     yield from [f"    auto own = {kind}::open().value();", "    auto plain = stm::service::open(read(path)).value();"]
-    yield "    std::optional<stm::outcome> told;"
+    yield "    [[maybe_unused]] std::optional<stm::outcome> told;"
     yield from calls_in_cpp(at, calls)
     for number, (_table, cells), name, length in tables:
         yield f'    check("{at}: {length}", {kind}::{length} == plain.table_length({number}));'
